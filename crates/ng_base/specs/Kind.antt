@@ -1,0 +1,26 @@
+-- The types of nodes and their names. Each name is that of the manual page, ng_hub(4) and so on, without `ng_`.
+use Rattle.std.specs.Prelude.{ℕ, List, [], ◌∷◌, codes, find, Option}
+use Rattle.std.specs.Str.{bytes_eq}
+use Rattle.ng_base.specs.declared.kind.Kind.{Kind}
+use Rattle.ng_base.specs.declared.kind.Kind.TheVariants.{Hub, Hole, Echo, Tee, Split, One2many, Bridge, Vlan, Patch, Bpf, Ether, Socket}
+
+abbrev pub kinds : List Kind
+kinds = Hub ∷ Hole ∷ Echo ∷ Tee ∷ Split ∷ One2many ∷ Bridge ∷ Vlan ∷ Patch ∷ Bpf ∷ Ether ∷ Socket ∷ []
+
+abbrev pub kind_text : Kind → List ℕ
+kind_text Hub = codes "hub"
+kind_text Hole = codes "hole"
+kind_text Echo = codes "echo"
+kind_text Tee = codes "tee"
+kind_text Split = codes "split"
+kind_text One2many = codes "one2many"
+kind_text Bridge = codes "bridge"
+kind_text Vlan = codes "vlan"
+kind_text Patch = codes "patch"
+kind_text Bpf = codes "bpf"
+kind_text Ether = codes "ether"
+kind_text Socket = codes "socket"
+
+-- the kind of that name
+abbrev pub kind_named : List ℕ → Option Kind
+kind_named name = find (λ kind. bytes_eq (kind_text kind) name) kinds

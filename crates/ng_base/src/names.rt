@@ -1,0 +1,67 @@
+// Lists of names.
+ghost use Rattle.std.specs.Prelude.{◌≡◌, [], ◌∷◌, ◌++◌, OnOk, OnErr};
+ghost use Rattle.ng_base.specs.Names.{has_name, without_name};
+
+use crate::{Name, NoMemory};
+use std::alloc::Global;
+use std::marker::Model;
+
+/// Names in order, such as the hooks of a node in the order in which they were made.
+///
+/// A contract sees them as the list of their bytes.
+#[derive(Debug, Drop)]
+pub struct Names {
+    items: Vec<Name>,
+}
+
+impl Model for Names {
+    ghost use Rattle.std.specs.Prelude.{ℕ, List};
+
+    ghost Value = { List (List ℕ) };
+
+    ghost view = { λ n. n.items.items };
+}
+
+impl Names {
+    /// No names. It takes no memory.
+    pub fn new(alloc: Global) -> Names
+        ensures { result ≡ [] }
+    {
+        Names {
+            items: Vec::new(alloc),
+        }
+    }
+
+    /// The names, to be looked at.
+    pub fn as_slice(&self) -> &[Name]
+        ensures { result.now ≡ self.now }
+    {
+        self.items.as_slice()
+    }
+
+    /// Whether the name stands among them.
+    pub fn has(&self, name: &Name) -> bool
+        ensures { result ≡ has_name self.now name.now }
+    {
+        self.items.iter().any(|other| *other == *name)
+    }
+
+    /// Adds a name at the end.
+    ///
+    /// # Errors
+    /// `NoMemory` for want of memory alone; the names are then as before.
+    pub fn push(&mut self, name: Name) -> Result<(), NoMemory>
+        ensures ok { OnOk result (self.new ≡ self.old ++ name ∷ []) }
+        ensures err { OnErr result (self.new ≡ self.old) }
+    {
+        self.items.push(name)?;
+        Ok(())
+    }
+
+    /// Takes the name out, wherever it stands.
+    pub fn remove(&mut self, name: &Name)
+        ensures { self.new ≡ without_name self.old name.now }
+    {
+        self.items.retain(|other| *other != *name);
+    }
+}
