@@ -1,5 +1,5 @@
 -- The types of nodes and their names. Each name is that of the manual page, ng_hub(4) and so on, without `ng_`.
-use Rattle.std.specs.Prelude.{ℕ, List, [], ◌∷◌, codes, find, Option}
+use Rattle.std.specs.Prelude.{ℕ, Bool, ◌==◌, List, [], ◌∷◌, codes, find, Option}
 use Rattle.std.specs.Str.{bytes_eq}
 use Rattle.ng_base.specs.declared.kind.Kind.{Kind}
 use Rattle.ng_base.specs.declared.kind.Kind.TheVariants.{Hub, Hole, Echo, Tee, Split, One2many, Bridge, Vlan, Patch, Bpf, Ether, Socket}
@@ -24,3 +24,21 @@ kind_text Socket = codes "socket"
 -- the kind of that name
 abbrev pub kind_named : List ℕ → Option Kind
 kind_named name = find (λ kind. bytes_eq (kind_text kind) name) kinds
+
+-- the place of a kind among the kinds, from 0
+abbrev pub kind_number : Kind → ℕ
+kind_number Hub = 0
+kind_number Hole = 1
+kind_number Echo = 2
+kind_number Tee = 3
+kind_number Split = 4
+kind_number One2many = 5
+kind_number Bridge = 6
+kind_number Vlan = 7
+kind_number Patch = 8
+kind_number Bpf = 9
+kind_number Ether = 10
+kind_number Socket = 11
+
+abbrev pub same_kind : Kind → Kind → Bool
+same_kind a b = kind_number a == kind_number b

@@ -1,6 +1,6 @@
 // The kinds of nodes.
 ghost use Rattle.std.specs.Prelude.{◌≡◌};
-ghost use Rattle.ng_base.specs.Kind.{kind_text, kind_named};
+ghost use Rattle.ng_base.specs.Kind.{kind_text, kind_named, kind_number};
 
 use crate::Name;
 
@@ -49,6 +49,26 @@ impl Kind {
         Kind::Ether,
         Kind::Socket,
     ];
+
+    /// The place of the kind among all kinds, from 0.
+    pub fn number(self) -> u8
+        ensures { result ≡ kind_number self }
+    {
+        match self {
+            Kind::Hub => 0,
+            Kind::Hole => 1,
+            Kind::Echo => 2,
+            Kind::Tee => 3,
+            Kind::Split => 4,
+            Kind::One2many => 5,
+            Kind::Bridge => 6,
+            Kind::Vlan => 7,
+            Kind::Patch => 8,
+            Kind::Bpf => 9,
+            Kind::Ether => 10,
+            Kind::Socket => 11,
+        }
+    }
 
     /// The name of the type, as commands and lists have it.
     pub fn text(self) -> &'static str

@@ -1,0 +1,5 @@
+pub mod Codes
+pub mod Effects
+pub mod Machine
+pub mod Reading
+pub mod Validity
