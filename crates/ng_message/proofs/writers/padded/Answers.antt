@@ -1,0 +1,9 @@
+-- What is left of the thirty-two zeros behind the text is so many zeros.
+use Rattle.std.proofs.Common.{ℕ, List, ◌++◌, length, ap}
+use Rattle.std.proofs.lemmas.List.{drop-replicate}
+use Rattle.ng_message.proofs.writers.padded.Goals as goal
+
+pub returns : goal.returns
+returns c =
+    rw c.copy_from_slice.ensures.after
+    (ap (λ (l : List ℕ). c.args.text.now ++ l) (drop-replicate (length c.args.text.now) 32 0))
