@@ -1,0 +1,4 @@
+pub mod Count
+pub mod Read
+pub mod Write
+pub mod Memory

@@ -1,0 +1,23 @@
+//! The outside of a program: files that are read by name and a sink that bytes are put into, each
+//! with a count of its faults, in memory and for real.
+#![tactic(auto)]
+
+mod failed;
+mod files;
+mod memory_files;
+mod memory_sink;
+mod real_files;
+mod real_sink;
+mod sink;
+#[cfg(test)]
+mod tests;
+mod whole;
+
+pub use failed::Failed;
+pub use files::Files;
+pub use memory_files::{MemFile, MemFiles};
+pub use memory_sink::MemSink;
+pub use real_files::StdFiles;
+pub use real_sink::StdSink;
+pub use sink::{Sink, put_all};
+pub use whole::{ReadStop, read_whole};
