@@ -1,0 +1,10 @@
+pub mod Marks
+pub mod Decimals
+pub mod Numbers
+pub mod Named
+pub mod LineParts
+pub mod Following
+pub mod Forms
+pub mod Readings
+pub mod Packets
+pub mod Places

@@ -1,0 +1,4 @@
+pub mod Line
+pub mod Form
+pub mod Script
+pub mod Reading
