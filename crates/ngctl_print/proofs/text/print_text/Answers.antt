@@ -1,0 +1,13 @@
+use Rattle.std.proofs.lemmas.Result.{err_from_is_err_and}
+use Rattle.ngctl_print.specs.Text.{summary_text}
+use Rattle.ngctl_print.proofs.Printing.{printed_more, stopped_before, handed_on}
+use Rattle.ngctl_print.proofs.text.print_text.Goals as goal
+
+pub returns : goal.returns
+returns g c = printed_more _ _ _ _ _ _ _ _ _ c.in_ok-print_all_told.ensures c.print_summary.ensures
+
+pub returns-in_err-print_all_told : goal.returns-in_err-print_all_told
+returns-in_err-print_all_told g c =
+    let p = err_from_is_err_and c.from_residual.result c.from_residual.ensures.1 in
+    handed_on _ _ _ _ _ _ _ _ p.1 p.2
+    (stopped_before _ _ _ _ c.in_err-print_all_told.field-0.0 _ (summary_text c.args.totals.now c.args.fed c.args.of c.args.stopped) c.in_err-print_all_told.ensures)

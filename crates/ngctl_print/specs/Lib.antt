@@ -1,0 +1,4 @@
+pub mod Dump
+pub mod Text
+pub mod Fits
+pub mod Prints

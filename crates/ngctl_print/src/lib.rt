@@ -1,0 +1,17 @@
+//! The text of a run: what the one who gave the commands is told, and the summary behind it, put into
+//! a sink line by line.
+#![tactic(auto)]
+
+mod dump;
+mod line;
+mod stop;
+mod summary;
+#[cfg(test)]
+mod tests;
+mod text;
+mod told;
+
+pub use stop::PrintStop;
+pub use summary::print_summary;
+pub use text::print_text;
+pub use told::print_told;

@@ -1,0 +1,209 @@
+// The text of runs, as tables, and what a sink holds of it that is slow, fails or has little room.
+use crate::{PrintStop, print_summary, print_text, print_told};
+use ng_base::{Name, NoMemory, Packet};
+use ng_node::{Told, Totals};
+use ng_outside::MemSink;
+use ngctl_words::{Script, read_script};
+use std::alloc::Global;
+use std::process::Abort;
+use std::test::Fail;
+
+const NOTHING: Totals = Totals {
+    applied: 0,
+    refused: 0,
+    node_gone: 0,
+    hook_gone: 0,
+    budget: 0,
+    no_peer: 0,
+    peer_gone: 0,
+    full: 0,
+    spool: 0,
+    nodes: 0,
+    hooks: 0,
+};
+
+// A packet that is written to an echo and comes back.
+const ECHO_SCRIPT: &str = "mkpeer . echo a b\nwrite a 1 2 3\n";
+
+const ECHO_TEXT: &str = "+ mkpeer . echo a b
++ write a 1 2 3
+data on a:
+00000: 01 02 03
+summary: fed 2 of 2, applied 3, data refused 0
+dropped: node gone 0, hook gone 0, budget 0
+lost: no peer 0, node gone 0, full 0, spool 0
+graph: nodes 2, hooks 2
+";
+
+const ECHO_TOTALS: Totals = Totals {
+    applied: 3,
+    nodes: 2,
+    hooks: 2,
+    ..NOTHING
+};
+
+// A sink whose call of the number `failing` fails (0: none).
+fn sink_of(alloc: Global, room: usize, slow: bool, failing: u64) -> Result<MemSink, NoMemory> {
+    let failing = [failing].to_vec(alloc)?;
+    MemSink::new(alloc, room, slow, failing)
+}
+
+fn print_echo(alloc: Global, out: &mut MemSink) -> Result<Result<(), PrintStop>, Fail> {
+    let script = read_script(alloc, ECHO_SCRIPT.as_bytes())?;
+    let told = [
+        Told::Line { command: 1 },
+        Told::Line { command: 2 },
+        Told::Frame {
+            hook: Name::read(b"a")?,
+            packet: Packet::new(alloc, &[1, 2, 3])?,
+        },
+    ];
+    Ok(print_text(alloc, &script, &told, &ECHO_TOTALS, 2, 2, false, out))
+}
+
+#[test]
+fn an_echo_is_told_line_by_line(rt: HostRuntime) -> Result<(), Fail> {
+    for (slow, puts) in [(false, 8), (true, ECHO_TEXT.len())] {
+        let mut sink = sink_of(rt.alloc(), 1000, slow, 0)?;
+        assert_eq!(rt; print_echo(rt.alloc(), &mut sink)?, Ok(()), "slow: {slow}");
+        assert_eq!(rt; str::from_utf8(sink.bytes())?, ECHO_TEXT, "slow: {slow}");
+        assert_eq!(rt; sink.calls() as usize, puts, "slow: {slow}");
+    }
+    Ok(())
+}
+
+#[test]
+fn a_failed_put_ends_the_text(rt: HostRuntime) -> Result<(), Fail> {
+    let rows = [
+        (1, ""),
+        (2, "+ mkpeer . echo a b\n"),
+        (4, "+ mkpeer . echo a b\n+ write a 1 2 3\ndata on a:\n"),
+        (
+            6,
+            "+ mkpeer . echo a b\n+ write a 1 2 3\ndata on a:\n00000: 01 02 03\nsummary: fed 2 of 2, applied 3, data refused 0\n",
+        ),
+    ];
+    for (failing, held) in rows {
+        let mut sink = sink_of(rt.alloc(), 1000, false, failing)?;
+        let answer = print_echo(rt.alloc(), &mut sink)?;
+        assert_eq!(rt; answer, Err(PrintStop::Fault), "at {failing}");
+        assert_eq!(rt; str::from_utf8(sink.bytes())?, held, "at {failing}");
+        assert_eq!(rt; sink.calls(), failing);
+    }
+    Ok(())
+}
+
+#[test]
+fn a_full_sink_holds_a_front(rt: HostRuntime) -> Result<(), Fail> {
+    let mut sink = sink_of(rt.alloc(), 23, false, 0)?;
+    assert_eq!(rt; print_echo(rt.alloc(), &mut sink)?, Err(PrintStop::Fault));
+    assert_eq!(rt; sink.bytes(), b"+ mkpeer . echo a b\n+ w".as_slice());
+    Ok(())
+}
+
+#[test]
+fn an_empty_run_has_a_summary_alone(rt: HostRuntime) -> Result<(), Fail> {
+    let script = read_script(rt.alloc(), b"")?;
+    let totals = Totals {
+        nodes: 1,
+        ..NOTHING
+    };
+    let mut sink = sink_of(rt.alloc(), 1000, false, 0)?;
+    print_text(rt.alloc(), &script, &[], &totals, 0, 0, false, &mut sink)?;
+    let text = "summary: fed 0 of 0, applied 0, data refused 0
+dropped: node gone 0, hook gone 0, budget 0
+lost: no peer 0, node gone 0, full 0, spool 0
+graph: nodes 1, hooks 0
+";
+    assert_eq!(rt; str::from_utf8(sink.bytes())?, text);
+    Ok(())
+}
+
+#[test]
+fn each_count_has_its_place(rt: HostRuntime) -> Result<(), Fail> {
+    let totals = Totals {
+        applied: 100,
+        refused: 18_446_744_073_709_551_615,
+        node_gone: 3,
+        hook_gone: 4,
+        budget: 5,
+        no_peer: 6,
+        peer_gone: 7,
+        full: 8,
+        spool: 9,
+        nodes: 10,
+        hooks: 4_100,
+    };
+    let mut sink = sink_of(rt.alloc(), 1000, false, 0)?;
+    print_summary(rt.alloc(), &totals, 12, 13, true, &mut sink)?;
+    let text = "summary: fed 12 of 13, applied 100, data refused 18446744073709551615, stopped
+dropped: node gone 3, hook gone 4, budget 5
+lost: no peer 6, node gone 7, full 8, spool 9
+graph: nodes 10, hooks 4100
+";
+    assert_eq!(rt; str::from_utf8(sink.bytes())?, text);
+    Ok(())
+}
+
+fn no_script(alloc: Global) -> Result<Script, Fail> {
+    Ok(read_script(alloc, b"")?)
+}
+
+// The bytes of the packets below, and their lines as hexdump(1) writes them.
+const BYTES: [u8; 33] = [
+    0x9a, 0xbf, 0xe4, 0x09, 0x2e, 0x53, 0x78, 0x9d, 0xc2, 0xe7, 0x0c, 0x31, 0x56, 0x7b, 0xa0, 0xc5,
+    0xea, 0x0f, 0x34, 0x59, 0x7e, 0xa3, 0xc8, 0xed, 0x12, 0x37, 0x5c, 0x81, 0xa6, 0xcb, 0xf0, 0x15,
+    0x3a,
+];
+
+#[test]
+fn a_dump_has_a_line_for_sixteen_bytes(rt: HostRuntime) -> Result<(), Fail> {
+    let script = no_script(rt.alloc())?;
+    let rows = [
+        (0, "data on hook-1:\n"),
+        (1, "data on hook-1:\n00000: 9a\n"),
+        (
+            16,
+            "data on hook-1:\n00000: 9a bf e4 09 2e 53 78 9d c2 e7 0c 31 56 7b a0 c5\n",
+        ),
+        (
+            17,
+            "data on hook-1:\n00000: 9a bf e4 09 2e 53 78 9d c2 e7 0c 31 56 7b a0 c5\n00010: ea\n",
+        ),
+        (
+            33,
+            "data on hook-1:\n00000: 9a bf e4 09 2e 53 78 9d c2 e7 0c 31 56 7b a0 c5\n00010: ea 0f 34 59 7e a3 c8 ed 12 37 5c 81 a6 cb f0 15\n00020: 3a\n",
+        ),
+    ];
+    for (length, text) in rows {
+        let told = Told::Frame {
+            hook: Name::read(b"hook-1")?,
+            packet: Packet::new(rt.alloc(), BYTES.get(..length).unwrap_or(&[]))?,
+        };
+        let mut sink = sink_of(rt.alloc(), 1000, false, 0)?;
+        print_told(rt.alloc(), &script, &told, &mut sink)?;
+        assert_eq!(rt; str::from_utf8(sink.bytes())?, text, "{length} bytes");
+    }
+    Ok(())
+}
+
+#[test]
+fn offsets_have_five_digits(rt: HostRuntime) -> Result<(), Fail> {
+    let script = no_script(rt.alloc())?;
+    let bytes = vec![in rt.alloc(); 0x5a; 65_552]?;
+    let told = Told::Frame {
+        hook: Name::read(b"a")?,
+        packet: Packet::new(rt.alloc(), bytes.as_slice())?,
+    };
+    let mut sink = sink_of(rt.alloc(), 300_000, false, 0)?;
+    print_told(rt.alloc(), &script, &told, &mut sink)?;
+    let text = str::from_utf8(sink.bytes())?;
+    // A line of sixteen bytes has 55 bytes.
+    assert_eq!(rt; text.len(), 11 + 4_097 * 55);
+    assert!(rt;
+        text.ends_with(
+            "\n0fff0: 5a 5a 5a 5a 5a 5a 5a 5a 5a 5a 5a 5a 5a 5a 5a 5a\n10000: 5a 5a 5a 5a 5a 5a 5a 5a 5a 5a 5a 5a 5a 5a 5a 5a\n"
+        )
+    );
+    Ok(())
+}
