@@ -1,0 +1,197 @@
+-- How far a change moves the numbers of a world.
+use Rattle.std.proofs.Common.{◌≡◌, ℕ, zero, suc, ◌+◌, ◌*◌, ◌-◌, ◌<◌, ◌≤◌, Bool, true, false, List, [], ◌∷◌, ◌++◌, length, set, get_or, sum_by, nat_le, nat_lt, if◌then◌else◌, ◌==◌, Option, Some, None, refl, sym, ap, subst, ◌∙◌, arith, length-append, inl, inr}
+use Rattle.std.proofs.lemmas.List.Sums.{sum_by-cons, sum_by-append}
+use Rattle.std.proofs.lemmas.Grind.{common_steps}
+use Rattle.std.proofs.Math.ListN.{length-set}
+use Rattle.std.proofs.lemmas.Bool.{cases_Bool}
+use Rattle.ng_base.specs.declared.errno.Errno.{Errno}
+use Rattle.ng_base.specs.declared.ids.NodeId.{NodeId}
+use Rattle.ng_base.specs.declared.ids.Stamp.{Stamp}
+use Rattle.ng_base.specs.declared.kind.Kind.{Kind}
+use Rattle.ng_node.specs.declared.body.Body.{Body}
+use Rattle.ng_node.specs.declared.body.Exit.{Exit}
+use Rattle.ng_node.specs.declared.body.Exit.TheVariants.{Wire, Host, Reader}
+use Rattle.ng_node.specs.declared.item.Item.{Item}
+use Rattle.ng_node.specs.declared.told.Told.{Told}
+use Rattle.ng_core.specs.declared.hook.Hook.{Hook}
+use Rattle.ng_core.specs.World.{World, Row, row_in, row_at, hook_at, kind_at, with_hook, blank_row}
+use Rattle.ng_core.specs.Change.{accept, accept_at, send_if, send_joined, send_by, post, frames, most_frames, arriving, tell, read_if, spooled, most_spool, leave, change, changed, Change, Sets, Notes, Posts, Makes, Links, Exits, Refuses}
+use Rattle.ng_core.specs.Effect.{exits, posts, counts_refused, makes, joined_hook}
+use Rattle.ng_core.specs.Numbers.{lost_total, made, hooks_in, hook_total}
+use Rattle.ng_core.specs.Going.{IdsFrom, HasIdsInOrder}
+
+-- at most k more is made, and at most m nodes and links
+pub record Keeps (k m : ℕ) (w v : World) : Type 0 where
+  pub fed : v.fed ≡ w.fed
+  pub applies : v.applies ≡ w.applies
+  pub made : made v ≤ made w + k
+  pub links : v.next_link ≤ w.next_link + m
+  pub nodes : length v.nodes ≤ length w.nodes + m
+  pub hooks : hook_total v.nodes ≤ hook_total w.nodes + 2 * m
+  pub spool : w.spool ≤ most_spool → v.spool ≤ most_spool
+  pub ids : HasIdsInOrder w → HasIdsInOrder v
+
+pub same : (w : World) → Keeps 0 0 w w
+same w = record { fed = refl; applies = refl; made = omega arith; links = omega arith; nodes = omega arith; hooks = omega arith; spool = λ h. h; ids = λ h. h }
+
+pub after : (j k a b : ℕ) (u w v : World) → Keeps j a u w → Keeps k b w v → Keeps (j + k) (a + b) u v
+after j k a b u w v p q = record {
+  fed = q.fed ∙ p.fed;
+  applies = q.applies ∙ p.applies;
+  made = omega (arith, p.made, q.made);
+  links = omega (arith, p.links, q.links);
+  nodes = omega (arith, p.nodes, q.nodes);
+  hooks = omega (arith, p.hooks, q.hooks);
+  spool = λ h. q.spool (p.spool h);
+  ids = λ h. q.ids (p.ids h);
+}
+
+pub within : (j k a b : ℕ) (w v : World) → j ≤ k → a ≤ b → Keeps j a w v → Keeps k b w v
+within j k a b w v le l p = record {
+  fed = p.fed;
+  applies = p.applies;
+  made = omega (arith, p.made);
+  links = omega (arith, p.links);
+  nodes = omega (arith, p.nodes);
+  hooks = omega (arith, p.hooks);
+  spool = p.spool;
+  ids = p.ids;
+}
+
+-- Ids in order
+
+pub ids_lower : (low low' : ℕ) (items : List Item) (next : ℕ) → low' ≤ low → IdsFrom low items next → IdsFrom low' items next
+ids_lower low low' [] next le ids = omega arith
+ids_lower low low' (item ∷ items) next le ids = (let first : low ≤ item.id.0 = ids.0 in omega arith, ids.1)
+
+ids_push : (low : ℕ) (items : List Item) (item : Item) (next : ℕ) → item.id.0 ≡ next → IdsFrom low items next → IdsFrom low (items ++ item ∷ []) (next + 1)
+ids_push low [] item next is ids = (omega arith, omega arith)
+ids_push low (x ∷ items) item next is ids = (ids.0, ids_push (x.id.0 + 1) items item next is ids.1)
+
+-- no item is below the bound
+pub ids_low : (low : ℕ) (items : List Item) (next : ℕ) → IdsFrom low items next → (k : ℕ) (d : Item) → k < length items → low ≤ (get_or items k d).id.0
+ids_low low [] next ids k d inside = absurd (omega arith)
+ids_low low (x ∷ items) next ids zero d inside = ids.0
+ids_low low (x ∷ items) next ids (suc k) d inside =
+    let first : low ≤ x.id.0 = ids.0 in
+    let rest : x.id.0 + 1 ≤ (get_or items k d).id.0 = ids_low (x.id.0 + 1) items next ids.1 k d (omega arith) in
+    omega arith
+
+-- Items that are accepted
+
+accept_keeps : (w : World) (to : NodeId) (kind : Kind) (body : Body) (tag : Option ℕ) (stamp : Stamp) → Keeps 1 0 w (accept w to kind body tag stamp)
+accept_keeps w to kind body tag stamp = record {
+  fed = refl;
+  applies = refl;
+  made = omega arith;
+  links = omega arith;
+  nodes = omega arith;
+  hooks = omega arith;
+  spool = λ h. h;
+  ids = λ h. ids_push 0 w.pending _ w.next_item refl h;
+}
+
+pub accept_at_keeps : (w : World) (to : NodeId) (row : Option Row) (body : Body) (tag : Option ℕ) (stamp : Stamp) → Keeps 1 0 w (accept_at w to row body tag stamp)
+accept_at_keeps w to None body tag stamp = within 0 1 0 0 w w (omega arith) (omega arith) (same w)
+accept_at_keeps w to (Some row) body tag stamp = accept_keeps w to (kind_at row) body tag stamp
+
+-- Packets that are sent
+
+send_if_keeps : (w : World) (hook : Hook) (row : Option Row) (room : Bool) (packet : List ℕ) (stamp : Stamp) → Keeps 1 0 w (send_if w hook row room packet stamp)
+send_if_keeps w hook None room packet stamp = record { fed = refl; applies = refl; made = omega arith; links = omega arith; nodes = omega arith; hooks = omega arith; spool = λ h. h; ids = λ h. h }
+send_if_keeps w hook (Some row) false packet stamp = record { fed = refl; applies = refl; made = omega arith; links = omega arith; nodes = omega arith; hooks = omega arith; spool = λ h. h; ids = λ h. h }
+send_if_keeps w hook (Some row) true packet stamp = accept_keeps w hook.peer.node (kind_at row) (arriving hook packet) None stamp
+
+send_joined_keeps : (w : World) (hook : Hook) (joined : Bool) (packet : List ℕ) (stamp : Stamp) → Keeps 1 0 w (send_joined w hook joined packet stamp)
+send_joined_keeps w hook false packet stamp = record { fed = refl; applies = refl; made = omega arith; links = omega arith; nodes = omega arith; hooks = omega arith; spool = λ h. h; ids = λ h. h }
+send_joined_keeps w hook true packet stamp = send_if_keeps w hook (row_at w hook.peer.node) (nat_lt (frames w) most_frames) packet stamp
+
+send_by_keeps : (w : World) (hook : Option Hook) (packet : List ℕ) (stamp : Stamp) → Keeps 1 0 w (send_by w hook packet stamp)
+send_by_keeps w None packet stamp = record { fed = refl; applies = refl; made = omega arith; links = omega arith; nodes = omega arith; hooks = omega arith; spool = λ h. h; ids = λ h. h }
+send_by_keeps w (Some hook) packet stamp = send_joined_keeps w hook hook.joined packet stamp
+
+pub post_keeps : (w : World) (from : NodeId) (hook packet : List ℕ) (stamp : Stamp) → Keeps 1 0 w (post w from hook packet stamp)
+post_keeps w from hook packet stamp = send_by_keeps w (hook_at (row_at w from) hook) packet stamp
+
+pub posts_keep : (at : NodeId) (stamp : Stamp) (w : World) (sends : List (List ℕ × List ℕ)) → Keeps (length sends) 0 w (changed at stamp w (posts sends))
+posts_keep at stamp w [] = same w
+posts_keep at stamp w (x ∷ sends) =
+    let one = post_keeps w at x.0 x.1 stamp in
+    let rest = posts_keep at stamp (post w at x.0 x.1 stamp) sends in
+    within (1 + length sends) _ 0 0 _ _ (omega arith) (omega arith) (after 1 (length sends) 0 0 _ _ _ one rest)
+
+-- Packets that leave
+
+read_if_keeps : (w : World) (hook packet : List ℕ) (room : Bool) → room ≡ nat_le (spooled w packet) most_spool → Keeps 1 0 w (read_if w room hook packet)
+read_if_keeps w hook packet false is = record { fed = refl; applies = refl; made = omega arith; links = omega arith; nodes = omega arith; hooks = omega arith; spool = λ h. h; ids = λ h. h }
+read_if_keeps w hook packet true is = record { fed = refl; applies = refl; made = omega arith; links = omega arith; nodes = omega arith; hooks = omega arith; spool = λ h. grind (arith, common_steps); ids = λ h. h }
+
+pub leave_keeps : (w : World) (exit : Exit) (hook packet : List ℕ) → Keeps 1 0 w (leave w exit hook packet)
+leave_keeps w Reader hook packet = read_if_keeps w hook packet (nat_le (spooled w packet) most_spool) refl
+leave_keeps w Wire hook packet = within 0 1 0 0 w w (omega arith) (omega arith) (same w)
+leave_keeps w Host hook packet = within 0 1 0 0 w w (omega arith) (omega arith) (same w)
+
+pub exits_keep : (at : NodeId) (stamp : Stamp) (w : World) (hook : List ℕ) (leaves : List (Exit × List ℕ)) → Keeps (length leaves) 0 w (changed at stamp w (exits hook leaves))
+exits_keep at stamp w hook [] = same w
+exits_keep at stamp w hook (x ∷ leaves) =
+    let one = leave_keeps w x.0 hook x.1 in
+    let rest = exits_keep at stamp (leave w x.0 hook x.1) hook leaves in
+    within (1 + length leaves) _ 0 0 _ _ (omega arith) (omega arith) (after 1 (length leaves) 0 0 _ _ _ one rest)
+
+counts_if_keep : (at : NodeId) (stamp : Stamp) (w : World) (none : Bool) → Keeps 1 0 w (changed at stamp w (if none then [] else Notes Refuses ∷ []))
+counts_if_keep at stamp w true = within 0 1 0 0 w w (omega arith) (omega arith) (same w)
+counts_if_keep at stamp w false = record { fed = refl; applies = refl; made = omega arith; links = omega arith; nodes = omega arith; hooks = omega arith; spool = λ h. h; ids = λ h. h }
+
+pub counts_keep : (at : NodeId) (stamp : Stamp) (w : World) (errno : Errno) → Keeps 1 0 w (changed at stamp w (counts_refused errno))
+counts_keep at stamp w errno = counts_if_keep at stamp w (errno.0 == 0)
+
+-- Nodes
+
+-- one node is another
+pub total_set : (nodes : List (Option Row)) (n : ℕ) (row : Row) (now : Option Row) → get_or nodes n None ≡ Some row → hook_total (set nodes n now) + length row.hooks ≡ hook_total nodes + hooks_in now
+total_set [] n row now there = absurd (cc there)
+total_set (was ∷ nodes) zero row now there =
+    let before = sum_by-cons hooks_in was nodes in
+    let behind = sum_by-cons hooks_in now nodes in
+    let same : hooks_in was ≡ length row.hooks = ap hooks_in there in
+    omega arith
+total_set (was ∷ nodes) (suc n) row now there =
+    let before = sum_by-cons hooks_in was nodes in
+    let behind = sum_by-cons hooks_in was (set nodes n now) in
+    let rest = total_set nodes n row now there in
+    omega arith
+
+pub total_push : (nodes : List (Option Row)) (now : Option Row) → hook_total (nodes ++ now ∷ []) ≡ hook_total nodes + hooks_in now
+total_push nodes now =
+    let both = sum_by-append hooks_in nodes (now ∷ []) in
+    let one : sum_by hooks_in (now ∷ []) ≡ hooks_in now = omega arith in
+    omega arith
+
+pub sets_keep : (at : NodeId) (stamp : Stamp) (w : World) (row now : Row) → row_at w at ≡ Some row → length now.hooks ≡ length row.hooks → Keeps 0 0 w (change at stamp w (Sets now))
+sets_keep at stamp w row now there same_hooks = record {
+  fed = refl;
+  applies = refl;
+  made = omega arith;
+  links = omega arith;
+  nodes = omega (arith, length-set {A = Option Row});
+  hooks = let total = total_set w.nodes at.0 row (Some now) there in omega arith;
+  spool = λ h. h;
+  ids = λ h. h;
+}
+
+pub makes_keep : (at : NodeId) (stamp : Stamp) (w : World) (row : Row) (kind : Kind) (ours theirs : List ℕ) (node link : ℕ) → row_at w at ≡ Some row → Keeps 0 1 w (changed at stamp w (makes at row kind ours theirs node link))
+makes_keep at stamp w row kind ours theirs node link there =
+    let now : Row = with_hook row (joined_hook ours link node theirs) in
+    let new : Row = with_hook (blank_row None kind) (joined_hook theirs link at.0 ours) in
+    let set_total = total_set w.nodes at.0 row (Some now) there in
+    let push_total = total_push (set w.nodes at.0 (Some now)) (Some new) in
+    record {
+      fed = refl;
+      applies = refl;
+      made = omega arith;
+      links = omega arith;
+      nodes = simp (length-append, length-set) (omega arith);
+      hooks = let more : length now.hooks ≡ length row.hooks + 1 = simp length-append (omega arith) in omega arith;
+      spool = λ h. h;
+      ids = λ h. h;
+    }

@@ -1,0 +1,9 @@
+pub mod Stocked
+pub mod Hooked
+pub mod Made
+pub mod Keeping
+pub mod Few
+pub mod Effects
+pub mod Fitting
+pub mod Sound
+pub mod PlainRun
