@@ -1,6 +1,5 @@
 -- From the print to the end of the run, and from there to the end of the call.
-use Rattle.std.proofs.Common.{◌≡◌, ◌⊎◌, inl, inr, ℕ, ◌+◌, ◌<◌, ◌≤◌, ◌^◌, Bool, List, [], ◌∷◌, length, map, replicate, Option, Some, None, IfSome, sym, ap, subst, ◌∙◌, refl, arith}
-use Rattle.std.specs.List.{AllByRecursion}
+use Rattle.std.proofs.Common.{◌≡◌, inl, inr, ℕ, ◌+◌, ◌<◌, ◌≤◌, ◌^◌, Bool, List, [], ◌∷◌, length, replicate, Option, Some, None, IfSome, sym, ap, ◌∙◌, refl, arith}
 use Rattle.std.proofs.lemmas.List.{length-map, length-replicate}
 use Rattle.ng_base.specs.declared.event.Event.{Event}
 use Rattle.ng_base.specs.declared.kind.Kind.{Kind}
@@ -19,7 +18,6 @@ use Rattle.ng_node.specs.declared.totals.Totals.{Totals}
 use Rattle.ngctl_words.specs.Script.{IsScript, IsUnbuilt}
 use Rattle.ngctl_print.specs.Text.{text_of}
 use Rattle.ng_core.specs.declared.input.Input.{Input}
-use Rattle.ng_core.specs.declared.input.Input.TheVariants.{Now}
 use Rattle.ng_core.specs.Totals.{totals_of}
 use Rattle.ng_core.specs.Run.{run, ends_stopped}
 use Rattle.ng_core.specs.Orderly.{IsOrderly}

@@ -13,9 +13,7 @@ use Rattle.ng_core.specs.Orderly.{IsOrderly}
 use Rattle.ng_core.specs.Plain.{IsPlain}
 use Rattle.ng_run.specs.declared.ended.Fault.{Fault}
 use Rattle.ng_run.specs.declared.ended.Fault.TheVariants.{Usage, Script, TooBig, ReadFault, WriteFault, NoMemory}
-use Rattle.ng_run.specs.declared.ended.Which.{Which}
 use Rattle.ng_run.specs.declared.ended.Which.TheVariants.{Sink, Script as OfScript}
-use Rattle.ng_run.specs.Words.{script_name}
 use Rattle.ng_run.specs.Inputs.{inputs_of, start, budget, run_text}
 
 -- a script has at most so many bytes

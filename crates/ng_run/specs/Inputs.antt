@@ -1,5 +1,5 @@
 -- What a script feeds, where a run begins, and what is printed of it.
-use Rattle.std.specs.Prelude.{◌≡◌, ℕ, Bool, List, map, length, codes}
+use Rattle.std.specs.Prelude.{ℕ, Bool, List, map, length, codes}
 use Rattle.ng_base.specs.declared.event.Event.{Event}
 use Rattle.ng_base.specs.declared.kind.Kind.{Kind}
 use Rattle.ngctl_words.specs.declared.command.Command.{Command}

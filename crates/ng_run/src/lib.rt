@@ -3,10 +3,12 @@
 
 mod ended;
 mod inputs;
+mod line;
 #[cfg(test)]
 mod tests;
 mod top;
 mod words;
 
 pub use ended::{Ended, Fault, Which};
+pub use line::fault_line;
 pub use top::{ngrun, run_words};

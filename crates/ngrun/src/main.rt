@@ -1,47 +1,36 @@
 //! `ngrun SCRIPT`: runs the script of commands and prints what they tell, the packets that come back and a summary.
 //!
-//! The status is 0 where all went well, 64 where the words are wrong, 65 where the script is, 66 where it can't be read,
-//! 74 where the output can't be written, and 71 for want of memory. What went wrong is told on standard error.
+//! The status is 0 where all went well, 2 where the run stopped at its limit, 64 where the words are wrong, 65 where the
+//! script is, 66 where it can't be read, 74 where the output can't be written, and 71 for want of memory. What went wrong
+//! is told on standard error.
 #![tactic(auto)]
 
-mod report;
-mod start;
+mod program;
+mod stock;
+mod tell;
+#[cfg(test)]
+mod tests;
+mod words;
 
-use ng_base::NoMemory;
-use report::report;
-use start::{run, words};
+use ng_outside::{StdFiles, StdSink};
+use program::program;
+use std::env;
 use std::io::ErrorKind;
 use std::process::ExitCode;
-
-const USAGE: u8 = 64;
-
-const OUT_OF_MEMORY: u8 = 71;
-
-// The words can't be taken: memory is wanting, or they are no text.
-fn wordless(rt: &HostRuntime, why: ErrorKind) -> ExitCode {
-    if matches!(why, ErrorKind::OutOfMemory) {
-        let _ = report::no_memory(rt);
-        return ExitCode::from(OUT_OF_MEMORY);
-    }
-    let _ = report::usage(rt);
-    ExitCode::from(USAGE)
-}
+use words::{behind_name, wordless};
 
 fn main(rt: HostRuntime) -> ExitCode {
-    let words = match words(&rt) {
-        Ok(words) => words,
-        Err(error) => return wordless(&rt, error.kind()),
+    let mut errors = StdSink::new(rt.stderr());
+    let args = match env::args(&rt) {
+        Ok(args) => args,
+        Err(error) => return ExitCode::from(wordless(rt.alloc(), error.kind(), &mut errors)),
     };
-    match run(&rt, &words) {
-        Ok(ended) => {
-            if let Some(fault) = ended.fault {
-                let _ = report(&rt, fault, &words);
-            }
-            ExitCode::from(ended.status)
-        }
-        Err(NoMemory) => {
-            let _ = report::no_memory(&rt);
-            ExitCode::from(OUT_OF_MEMORY)
-        }
-    }
+    let Ok(args) = args.collect(rt.alloc()) else {
+        return ExitCode::from(wordless(rt.alloc(), ErrorKind::OutOfMemory, &mut errors));
+    };
+    let words = behind_name(args);
+    let mut files = StdFiles::new(&rt);
+    let mut out = StdSink::new(rt.stdout());
+    let status = program(rt.alloc(), &words, &mut files, &mut out, &mut errors);
+    ExitCode::from(status)
 }

@@ -1,6 +1,8 @@
 // Words that are refused, and calls of files and sinks that fail.
-use super::over::{ECHO, ECHO_TEXT, ROOM, check_refused, check_text, file, run, sink};
-use crate::{Fault, Which};
+use super::over::{ECHO, ECHO_TEXT, ROOM, check_refused, check_text, file, run, sink, words_of};
+use crate::{Fault, Which, fault_line};
+use ng_base::NoMemory;
+use ngctl_words::ScriptFault;
 use std::alloc::Global;
 use std::process::Abort;
 use std::test::Fail;
@@ -128,6 +130,39 @@ fn a_sink_without_room(rt: HostRuntime) -> Result<(), Fail> {
         assert_eq!(rt; ended.fault, Some(Fault::WriteFault(Which::Sink)));
         assert_eq!(rt; ended.journal.len(), 8);
         assert_eq!(rt; out.bytes(), front(room));
+    }
+    Ok(())
+}
+
+// The line of a fault behind what stood there, for a script of the name `a.ng`.
+fn line_of(alloc: Global, fault: Fault) -> Result<Vec<u8>, NoMemory> {
+    let words = words_of(alloc, &["a.ng"])?;
+    let mut out = Vec::from_slice(alloc, b"> ")?;
+    fault_line(alloc, &fault, &words, &mut out)?;
+    Ok(out)
+}
+
+#[test]
+fn lines_of_faults(rt: HostRuntime) -> Result<(), Fail> {
+    let rows = [
+        (Fault::Usage, "> ngrun: usage: ngrun SCRIPT\n"),
+        (
+            Fault::Script(ScriptFault::Unbuilt(4_097)),
+            "> ngrun: script line 4097: not built yet\n",
+        ),
+        (Fault::TooBig(Which::Script), "> ngrun: too big: a.ng\n"),
+        (
+            Fault::ReadFault(Which::Script),
+            "> ngrun: can't read a.ng\n",
+        ),
+        (
+            Fault::WriteFault(Which::Sink),
+            "> ngrun: can't write output\n",
+        ),
+        (Fault::NoMemory, "> ngrun: out of memory\n"),
+    ];
+    for (fault, line) in rows {
+        assert_eq!(rt; line_of(rt.alloc(), fault)?.as_slice(), line.as_bytes());
     }
     Ok(())
 }

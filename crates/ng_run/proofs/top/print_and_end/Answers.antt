@@ -1,5 +1,4 @@
-use Rattle.std.proofs.Common.{◌≡◌, ◌∙◌, refl, if◌then◌else◌, Bool, true, false}
-use Rattle.std.proofs.lemmas.Grind.{common_steps}
+use Rattle.std.proofs.Common.{refl}
 use Rattle.ng_run.proofs.Ending.{text_is}
 use Rattle.ng_run.proofs.top.print_and_end.Goals as goal
 use Rattle.ng_run.proofs.top.print_and_end.Goals.{then-stopped, else-stopped}

@@ -1,6 +1,5 @@
 -- The inputs are those of the script, the world begins as it is to, and what ends the run ends the call.
 use Rattle.std.proofs.Common.{◌≡◌, ◌∙◌, ℕ, List, ap, refl, inl, map, length, sym}
-use Rattle.std.proofs.lemmas.List.{length-map}
 use Rattle.ng_node.specs.State.{kind_of}
 use Rattle.ng_core.specs.declared.input.Input.{Input}
 use Rattle.ng_core.specs.World.{start_of}

@@ -2,7 +2,7 @@
 use Rattle.std.proofs.Common.{◌≡◌, refl, map, Some, string_bytes, arith}
 use Rattle.std.proofs.lemmas.Grind.{common_steps}
 use Rattle.ng_run.specs.Words.{script_name}
-use Rattle.ng_run.proofs.Ending.{unreadable_ends, too_big_ends, no_memory_ends, unread_ends, ran_ends}
+use Rattle.ng_run.proofs.Ending.{unreadable_ends, too_big_ends, no_memory_ends, ran_ends}
 use Rattle.ng_run.proofs.top.run_words.Goals as goal
 
 pub returns-in-Err-Fault-clause-ends : goal.returns-in-Err-Fault-clause-ends

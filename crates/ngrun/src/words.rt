@@ -1,0 +1,43 @@
+// The words of the command line.
+ghost use Rattle.std.specs.Prelude.{◌≡◌, ◌≢◌, drop};
+ghost use Rattle.ng_run.specs.declared.ended.Fault.{Fault};
+ghost use Rattle.ngrun.specs.Program.{IsWordless};
+
+use crate::tell::tell;
+use ng_outside::Sink;
+use ng_run::Fault;
+use std::alloc::Global;
+use std::io::ErrorKind;
+
+const USAGE: u8 = 64;
+
+const OUT_OF_MEMORY: u8 = 71;
+
+/// The words behind the program's name, which is the first.
+pub fn behind_name(args: Vec<String>) -> Vec<String>
+    ensures { result.items ≡ drop 1 args.items }
+{
+    let mut words = args;
+    if !words.is_empty() {
+        let _name = words.remove(0);
+    }
+    words
+}
+
+/// Tells why the words couldn't be taken, and gives the exit status: 71 for want of memory, 64 where a word is no
+/// UTF-8.
+pub fn wordless<E: Sink>(alloc: Global, kind: ErrorKind, errors: &mut E) -> u8
+    ensures memory { kind ≡ ErrorKind.OutOfMemory → IsWordless Fault.NoMemory (record { old = E.held errors.old; now = E.held errors.new; before = E.faults errors.old; after = E.faults errors.new }) result }
+    ensures text { kind ≢ ErrorKind.OutOfMemory → IsWordless Fault.Usage (record { old = E.held errors.old; now = E.held errors.new; before = E.faults errors.old; after = E.faults errors.new }) result }
+{
+    match kind {
+        ErrorKind::OutOfMemory => {
+            tell(alloc, &Fault::NoMemory, &[], errors);
+            OUT_OF_MEMORY
+        }
+        _ => {
+            tell(alloc, &Fault::Usage, &[], errors);
+            USAGE
+        }
+    }
+}
