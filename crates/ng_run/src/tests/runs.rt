@@ -55,6 +55,17 @@ lost: no peer 0, node gone 0, full 0, spool 0
 graph: nodes 2, hooks 2
 ";
 
+// A body that always answers want of memory keeps to every clause. Here is memory enough.
+#[test]
+fn always_out_of_memory(rt: HostRuntime) -> Result<(), Fail> {
+    for script in ["", ECHO, TWO] {
+        let (ended, _) = run_bytes(rt.alloc(), script.as_bytes())?;
+        assert_eq!(rt; ended.status, 0);
+        assert_eq!(rt; ended.fault, None);
+    }
+    Ok(())
+}
+
 #[test]
 fn texts_are_the_table(rt: HostRuntime) -> Result<(), Fail> {
     let rows = [
