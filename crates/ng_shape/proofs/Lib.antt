@@ -1,0 +1,15 @@
+pub mod Views
+pub mod Depths
+pub mod Counts
+pub mod Widths
+pub mod Ascending
+pub mod Rows
+pub mod Given
+pub mod Reading
+pub mod ReadLoops
+pub mod Pieces
+pub mod Lookups
+pub mod Agreeing
+pub mod Again
+pub mod Back
+pub mod Whole

@@ -1,0 +1,8 @@
+pub mod Forms
+pub mod Shapes
+pub mod Values
+pub mod Layout
+pub mod Decoding
+pub mod Following
+pub mod Canonical
+pub mod Laws

@@ -1,0 +1,24 @@
+//! Shapes of structures, the values that stand in them, and how these lie in bytes.
+#![tactic(auto)]
+
+mod decoding;
+mod fault;
+mod fields;
+mod laws;
+mod layout;
+mod members;
+mod shape;
+mod sound;
+#[cfg(test)]
+mod tests;
+mod tree;
+
+pub use decoding::read_bytes;
+pub use fault::BytesFault;
+pub use fields::{field_number, fields_inside, shape_named};
+pub use laws::{canonical_is_layout, fitting_is_canonical, fitting_is_given_back};
+pub use layout::lay_out;
+pub use members::{chars_seen, count_seen, find_field, find_member, members_seen, number_seen};
+pub use shape::{CountField, Field, Shape};
+pub use sound::{is_shape, is_word_byte};
+pub use tree::{Member, Tree};
