@@ -55,7 +55,7 @@ number_again bits n at front rest wide low place =
     let taken : take g bytes ≡ zeros g = ap (take g) regroup ∙ take_at (zeros g) (digits ++ rest) g (zeros_length g) in
     (rw (here, regroup, padding, integer, value) refl, rw (here, taken) (zeros_are g))
 
-text_length : (n : ℕ) (cs : List ℕ) → length (text_bytes n cs) ≡ n
+pub text_length : (n : ℕ) (cs : List ℕ) → length (text_bytes n cs) ≡ n
 text_length n cs = omega (arith, length-append (take n cs) (zeros (n - length cs)), length-take n cs, zeros_length (n - length cs))
 
 text_is : (n k : ℕ) (cs : List ℕ) → n ≡ length cs + suc k → text_bytes n cs ≡ cs ++ 0 ∷ zeros k

@@ -65,7 +65,7 @@ plain_from no_parts c ms i j lt = refl
 plain_from (part name f ps) c ms i j lt =
     find_given_other i j (plain f c (find j ms)) (plain_parts ps c ms (j + 1)) (λ e. omega (arith, e)) ∙ plain_from ps c ms i (j + 1) (omega arith)
 
-plain_at : (ps : Parts) (c : Counter → ℕ) (ms : List (ℕ × Value)) (k j i : ℕ) (f : Form) → i ≡ k + j → form_at ps k ≡ Some f → find i (plain_parts ps c ms j) ≡ plain f c (find i ms)
+pub plain_at : (ps : Parts) (c : Counter → ℕ) (ms : List (ℕ × Value)) (k j i : ℕ) (f : Form) → i ≡ k + j → form_at ps k ≡ Some f → find i (plain_parts ps c ms j) ≡ plain f c (find i ms)
 unfolding plain plain_parts
 plain_at no_parts c ms k j i f at e = cc
 plain_at (part name g ps) c ms zero j i f at e =

@@ -1,0 +1,15 @@
+pub mod Standing
+pub mod Quieted
+pub mod Spared
+pub mod Rowed
+pub mod Kept
+pub mod Moves
+pub mod Ordering
+pub mod Counted
+pub mod Vanished
+pub mod Stilled
+pub mod Plainly
+pub mod Tested
+pub mod Reached
+pub mod Addressed
+pub mod Feeding

@@ -1,0 +1,118 @@
+-- What an item carries: whether it is a packet, its mode and its lane. netgraph(4): an item is a reader or a writer of
+-- its node, and a writer is alone with it.
+use Rattle.std.specs.Prelude.{ℕ, ◌/◌, ◌%◌, Bool, true, false, not, ◌&&◌, ◌==◌, Option, Some, None}
+use Rattle.std.specs.Str.{bytes_eq}
+use Rattle.ng_base.specs.declared.ids.ItemId.{ItemId}
+use Rattle.ng_base.specs.declared.ids.NodeId.{NodeId}
+use Rattle.ng_base.specs.declared.kind.Kind.{Kind}
+use Rattle.ng_base.specs.declared.kind.Kind.TheVariants.{Hub, Hole, Echo, Tee, Split, One2many, Bridge, Vlan, Patch, Bpf, Ether, Socket}
+use Rattle.ng_machine.specs.declared.body.Body.{Body}
+use Rattle.ng_machine.specs.declared.body.Body.TheVariants.{Frame, Msg, Join2, Join3, Undo, Leave, Rebind, Tick}
+use Rattle.ng_machine.specs.declared.body.Door.{Door}
+use Rattle.ng_machine.specs.declared.body.Door.TheVariants.{Wire, Hook as ByHook}
+use Rattle.ng_machine.specs.declared.body.Lane.{Lane}
+use Rattle.ng_machine.specs.declared.body.Lane.TheVariants.{Door as OfDoor, Sender as OfSender}
+use Rattle.ng_machine.specs.declared.item.Item.{Item}
+
+abbrev pub is_frame : Body → Bool
+is_frame (Frame door link packet) = true
+is_frame (Msg msg) = false
+is_frame (Join2 hook link peer peer_hook) = false
+is_frame (Join3 hook link) = false
+is_frame (Undo hook link errno) = false
+is_frame (Leave hook link) = false
+is_frame (Rebind hook old new peer peer_hook) = false
+is_frame (Tick seconds) = false
+
+abbrev pub is_tick : Body → Bool
+is_tick (Tick seconds) = true
+is_tick (Frame door link packet) = false
+is_tick (Msg msg) = false
+is_tick (Join2 hook link peer peer_hook) = false
+is_tick (Join3 hook link) = false
+is_tick (Undo hook link errno) = false
+is_tick (Leave hook link) = false
+is_tick (Rebind hook old new peer peer_hook) = false
+
+-- a packet changes the state of these kinds, so it wants such a node alone: one2many counts by turns, a bridge learns
+abbrev pub writes_by_packets : Kind → Bool
+writes_by_packets One2many = true
+writes_by_packets Bridge = true
+writes_by_packets Hub = false
+writes_by_packets Hole = false
+writes_by_packets Echo = false
+writes_by_packets Tee = false
+writes_by_packets Split = false
+writes_by_packets Vlan = false
+writes_by_packets Patch = false
+writes_by_packets Bpf = false
+writes_by_packets Ether = false
+writes_by_packets Socket = false
+
+-- bit 28 of a message's number says that the message changes nothing (NGM_READONLY of ng_message.h, netgraph(4))
+abbrev pub is_reader_number : ℕ → Bool
+is_reader_number number = number / 0x10000000 % 2 == 1
+
+-- the mode of a body at a node of the kind
+abbrev pub is_writer : Kind → Body → Bool
+is_writer kind (Frame door link packet) = writes_by_packets kind
+is_writer kind (Msg msg) = not (is_reader_number msg.header.cmd)
+is_writer kind (Join2 hook link peer peer_hook) = true
+is_writer kind (Join3 hook link) = true
+is_writer kind (Undo hook link errno) = true
+is_writer kind (Leave hook link) = true
+is_writer kind (Rebind hook old new peer peer_hook) = true
+is_writer kind (Tick seconds) = true
+
+-- packets that come by one door stay in order, and so do messages of one sender
+abbrev pub lane_of : Body → Option Lane
+lane_of (Frame door link packet) = Some (OfDoor door)
+lane_of (Msg msg) = Some (OfSender msg.from)
+lane_of (Join2 hook link peer peer_hook) = None
+lane_of (Join3 hook link) = None
+lane_of (Undo hook link errno) = None
+lane_of (Leave hook link) = None
+lane_of (Rebind hook old new peer peer_hook) = None
+lane_of (Tick seconds) = None
+
+abbrev pub same_door : Door → Door → Bool
+same_door Wire Wire = true
+same_door Wire (ByHook b) = false
+same_door (ByHook a) Wire = false
+same_door (ByHook a) (ByHook b) = bytes_eq a b
+
+abbrev pub same_lane : Lane → Lane → Bool
+same_lane (OfDoor a) (OfDoor b) = same_door a b
+same_lane (OfSender a) (OfSender b) = a.0 == b.0
+same_lane (OfDoor a) (OfSender b) = false
+same_lane (OfSender a) (OfDoor b) = false
+
+-- both have a lane, and it is one
+abbrev pub share_lane : Option Lane → Option Lane → Bool
+share_lane None b = false
+share_lane (Some a) None = false
+share_lane (Some a) (Some b) = same_lane a b
+
+-- two items of a node that may be worked on side by side: both are readers, and of different lanes
+abbrev pub compatible : Item → Item → Bool
+compatible a b = not a.writer && (not b.writer && not (share_lane (lane_of a.body) (lane_of b.body)))
+
+abbrev pub has_id : ItemId → Item → Bool
+has_id id item = item.id.0 == id.0
+
+abbrev pub is_at : NodeId → Item → Bool
+is_at node item = item.to.0 == node.0
+
+abbrev pub has_frame : Item → Bool
+has_frame item = is_frame item.body
+
+abbrev pub has_tick : Item → Bool
+has_tick item = is_tick item.body
+
+-- a command waits for the item
+abbrev pub tagged : ℕ → Option ℕ → Bool
+tagged command None = false
+tagged command (Some tag) = tag == command
+
+abbrev pub has_tag : ℕ → Item → Bool
+has_tag command item = tagged command item.tag

@@ -1,0 +1,13 @@
+pub mod Loops
+pub mod Words
+pub mod Members
+pub mod Turns
+pub mod Kept
+pub mod Filled
+pub mod Fitting
+pub mod Again
+pub mod Like
+pub mod Proper
+pub mod Rows
+pub mod Fields
+pub mod RoundTrip

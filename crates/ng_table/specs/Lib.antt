@@ -1,0 +1,13 @@
+pub mod Message
+pub mod Cookie
+pub mod Generic
+pub mod Hub
+pub mod Tee
+pub mod One2many
+pub mod Bridge
+pub mod Vlan
+pub mod Patch
+pub mod Bpf
+pub mod Ether
+pub mod Table
+pub mod Laws

@@ -1,0 +1,3 @@
+// The rows by name and number, and the texts of their structures.
+mod rows;
+mod texts;
