@@ -35,7 +35,7 @@ pub record IsRan (script : Option (List ℕ)) (held : List ℕ → Option (List 
   pub ends : EndsBy stocked script held before after sink status journal fault
   pub told : Tells fault script errors
 
--- there was no memory for the nodes: nothing was read or written, and that was told
+-- there was no memory for the nodes: nothing was written, and that was told
 pub record IsUnstocked (script : Option (List ℕ)) (sink errors : Heard) (status : ℕ) : Type 0 where
   pub status_is : status ≡ 71
   pub silent : Silent sink

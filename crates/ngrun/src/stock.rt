@@ -16,7 +16,7 @@ const ECHOES: u32 = 256;
 /// Runs the script that the words name, with a stock of one socket and 256 echoes.
 ///
 /// # Errors
-/// `NoMemory` where there is none for the nodes; nothing was read or written then.
+/// `NoMemory` where there is none for the nodes; nothing was written then.
 pub fn run<F: Files, O: Sink>(
     alloc: Global,
     words: &[String],
