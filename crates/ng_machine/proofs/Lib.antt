@@ -5,6 +5,7 @@ pub mod Rowed
 pub mod Kept
 pub mod Moves
 pub mod Ordering
+pub mod Held
 pub mod Counted
 pub mod Vanished
 pub mod Stilled

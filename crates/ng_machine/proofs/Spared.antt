@@ -33,7 +33,7 @@ use Rattle.ng_machine.specs.Address.{Address, read_address, walk}
 use Rattle.ng_machine.specs.Change.{Change, Sets, Makes, Retires, Accepts, Posts, Notes, items_of}
 use Rattle.ng_machine.specs.Order.{Order, Shutdown, Mkpeer, Connect, Rename, Rmhook, Asks, Question, read_order, read_by_mode, read_question, as_order}
 use Rattle.ng_machine.specs.Retire.{refuse, aftermath, aftermath_of, retiring, leaves, leave_to, leave_unless, outward, hooks_but, bypass, farewell, stays, cut_to_if}
-use Rattle.ng_machine.specs.Connect.{unless, hook_refusal, connecting, connect_to, connect, join, settle, undo, rmhook, leave, rebind}
+use Rattle.ng_machine.specs.Connect.{unless, hook_refusal, connecting, connect_to, connect, join, settle, undo, rmhook, take_away, rebind}
 use Rattle.ng_machine.specs.Generic.{mkpeer, mkpeer_refusal, makes, rename_refusal, carry_out, ordered_by, ordered}
 use Rattle.ng_machine.specs.Effect.{door_name, exits, posts, counts_unless, is_fine, becomes, serve, answered, ruled_if, told_answer, Sort, AnAnswer, AnOrder, OfKind, Foreign, sort_of, message_by}
 use Rattle.ng_machine.specs.Facts.{IsSpared, Spares, Keeps, ReadersSpare, KindsStay}
@@ -269,7 +269,7 @@ undo_keeps : (item : Item) (row : Row) (hook : Option Hook) (errno : Errno) → 
 undo_keeps item row None errno = tt
 undo_keeps item row (Some hook) errno = (refl, refusal_keeps row item.tag errno)
 
-left_keeps : (w : World) (item : Item) (row : Row) (hook : Option Hook) → Every (Keeps row) (leave w item row hook)
+left_keeps : (w : World) (item : Item) (row : Row) (hook : Option Hook) → Every (Keeps row) (take_away w item row hook)
 left_keeps w item row None = tt
 left_keeps w item row (Some hook) = cut_keeps w item row (without_hook row hook.name) (stays (without_hook row hook.name)) refl
 

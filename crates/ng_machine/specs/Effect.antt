@@ -23,7 +23,7 @@ use Rattle.ng_machine.specs.Case.{part_after, outcome_of}
 use Rattle.ng_machine.specs.World.{World, Row, row_at, kind_at, state_of, linked}
 use Rattle.ng_machine.specs.Change.{Change, Sets, Posts, Notes, Tells, Refuses, Exits, changed}
 use Rattle.ng_machine.specs.Retire.{refuse}
-use Rattle.ng_machine.specs.Connect.{hook_refusal, join, settle, undo, leave, rebind}
+use Rattle.ng_machine.specs.Connect.{hook_refusal, join, settle, undo, take_away, rebind}
 use Rattle.ng_machine.specs.Generic.{ordered, answer}
 
 -- A packet or a tick at its node: the node's part changes, then packets leave, then packets are sent.
@@ -105,7 +105,7 @@ effect_at w item row (Msg msg) = message w item row msg
 effect_at w item row (Join2 hook link peer peer_hook) = join item row (hook_refusal row hook) hook link peer peer_hook
 effect_at w item row (Join3 hook link) = settle row (linked row hook link)
 effect_at w item row (Undo hook link errno) = undo item row (linked row hook link) errno
-effect_at w item row (Leave hook link) = leave w item row (linked row hook link)
+effect_at w item row (Leave hook link) = take_away w item row (linked row hook link)
 effect_at w item row (Rebind hook old new peer peer_hook) = rebind row (linked row hook old) new peer peer_hook
 effect_at w item row (Tick seconds) = serve row (Tick seconds) [] (outcome_of (state_of row) (Tick seconds))
 

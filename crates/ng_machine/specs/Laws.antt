@@ -1,5 +1,5 @@
 -- The laws of orderly journals: what holds of every run, for every beginning, list of inputs, limit and number of seats.
-use Rattle.std.specs.Prelude.{◌≡◌, ◌≢◌, ℕ, ◌+◌, ◌<◌, ◌≤◌, Bool, true, false, ◌&&◌, ◌==◌, nat_le, nat_lt, if◌then◌else◌, List, ◌∷◌, ◌++◌, length, is_some, Option, Some, None}
+use Rattle.std.specs.Prelude.{◌≡◌, ◌≢◌, ℕ, ◌+◌, ◌<◌, ◌≤◌, Bool, true, false, ◌&&◌, ◌==◌, nat_le, nat_lt, if◌then◌else◌, List, [], ◌∷◌, ◌++◌, length, is_some, Option, Some, None}
 use Rattle.std.specs.List.{list_any}
 use Rattle.ng_base.specs.declared.cause.Cause.{Cause}
 use Rattle.ng_base.specs.declared.event.Event.{Event}
@@ -15,7 +15,7 @@ use Rattle.ng_machine.specs.State.{Part, Way, way_of}
 use Rattle.ng_machine.specs.World.{World, Row, row_at, state_of, start_of}
 use Rattle.ng_machine.specs.Feed.{Given}
 use Rattle.ng_machine.specs.Run.{At, Taken, beginning, run, after_all}
-use Rattle.ng_machine.specs.Orderly.{IsOrderly}
+use Rattle.ng_machine.specs.Orderly.{IsOrderly, IsWhole}
 use Rattle.ng_machine.specs.Plain.{IsPlain}
 
 -- what a run begins with, and what it is given
@@ -134,6 +134,18 @@ TakenWaits =
 
 abbrev pub WriterAlone : Type 0
 WriterAlone = TakenWaits × IsAlone × IsStill
+
+-- AT ONE SEAT: an item is taken by one seat at most, and a seat has one item at most.
+abbrev pub TakenOnce : Type 0
+TakenOnce =
+    (s : Setting) (journal : List Event) → IsJournal s journal
+    → ((id : ItemId) (i j : ℕ) → Has (taken_by id i) (at_after s journal).taken → Has (taken_by id j) (at_after s journal).taken → i ≡ j)
+    × ((a b : ItemId) (i : ℕ) → Has (taken_by a i) (at_after s journal).taken → Has (taken_by b i) (at_after s journal).taken → a ≡ b)
+
+-- WHOLE: where a journal is whole, nothing is taken: in a quiet world nothing is pending, and a Stop comes where the applied
+-- items alone are as many as may be.
+abbrev pub WholeTakesNothing : Type 0
+WholeTakesNothing = (s : Setting) (journal : List Event) → IsJournal s journal → IsWhole (start s) s.given journal → (at_after s journal).taken ≡ []
 
 -- RETIRED: once a node is gone, no item of it is pending, so none is applied, and none is accepted later; its number is
 -- not used again.

@@ -1,12 +1,12 @@
 -- Worked examples: journals from a beginning, and what their runs give. Each was worked out by hand.
-use Rattle.std.specs.Prelude.{take as first_of, ◌≡◌, ℕ, true, false, List, [], ◌∷◌, ◌++◌, length, replicate, codes, Some, None}
+use Rattle.std.specs.Prelude.{take as first_of, ◌≡◌, ℕ, true, false, List, [], ◌∷◌, ◌++◌, length, map, replicate, codes, Option, Some, None}
 use Rattle.ng_base.specs.declared.cause.Cause.TheVariants.{NodeGone, HookGone, Budget}
 use Rattle.ng_base.specs.declared.event.Event.{Event}
 use Rattle.ng_base.specs.declared.event.Event.TheVariants.{Feed, Back, Stop}
 use Rattle.ng_message.specs.Fields.{name_field}
 use Rattle.ng_message.specs.Layout.{message_bytes}
 use Rattle.ng_machine.specs.declared.body.Body.{Body}
-use Rattle.ng_machine.specs.declared.body.Body.TheVariants.{Frame, Msg, Leave, Tick as TickBody}
+use Rattle.ng_machine.specs.declared.body.Body.TheVariants.{Frame, Msg, Leave, Rebind, Tick as TickBody}
 use Rattle.ng_machine.specs.declared.body.Door.TheVariants.{Hook as ByHook}
 use Rattle.ng_machine.specs.declared.body.Exit.TheVariants.{Reader}
 use Rattle.ng_machine.specs.declared.command.What.TheVariants.{Quit}
@@ -369,7 +369,8 @@ LimitsRow =
     × (feed_refusal 1 (waiting_with 1024) (packet 0 5 []) ≡ Some (Spent 1))
 
 -- 12. A tee that is shut down leaves its two peers joined to each other, and packets go from port to port; with one peer it
--- goes as others do.
+-- goes as others do. The command of the shutdown waits for the two steps that join its peers, and for no peer that is to
+-- take its end away.
 
 abbrev pub two_ports : List (List ℕ)
 two_ports = codes "em0" ∷ codes "em1" ∷ []
@@ -384,10 +385,12 @@ bypass_inputs =
     ∷ packet 1 1400 (3 ∷ [])
     ∷ []
 
+-- the shutdown is applied
+abbrev pub bypass_front : List Event
+bypass_front = feed_and_serve 1 ++ feed_and_serve 2 ++ feed_and_serve 3 ++ serve 0 4 ++ serve 0 5 ++ feed_and_serve 6
+
 abbrev pub bypass_journal : List Event
-bypass_journal =
-    feed_and_serve 1 ++ feed_and_serve 2 ++ feed_and_serve 3 ++ serve 0 4 ++ serve 0 5 ++ feed_and_serve 6 ++ serve 0 7 ++ serve 0 8
-    ++ feed_and_serve 9 ++ serve 0 10 ++ feed_and_serve 11 ++ serve 0 12
+bypass_journal = bypass_front ++ serve 0 7 ++ serve 0 8 ++ feed_and_serve 9 ++ serve 0 10 ++ feed_and_serve 11 ++ serve 0 12
 
 abbrev pub bypass_world : World
 bypass_world = world_of two_ports bypass_inputs bypass_journal
@@ -397,6 +400,26 @@ lone_inputs = mkpeer 1 (codes ".") (codes "tee") (codes "a") (codes "left") ∷ 
 
 abbrev pub lone_journal : List Event
 lone_journal = feed_and_serve 1 ++ feed_and_serve 2 ++ serve 0 3
+
+-- a tee with a third peer
+abbrev pub third_inputs : List Input
+third_inputs =
+    mkpeer 1 (codes "em0:") (codes "tee") (codes "lower") (codes "left")
+    ∷ name 2 (codes "em0:lower") (codes "t")
+    ∷ connect 3 (codes "t:") (codes "em1:") (codes "right") (codes "lower")
+    ∷ mkpeer 4 (codes "t:") (codes "hub") (codes "left2right") (codes "x")
+    ∷ shutdown 5 (codes "t:")
+    ∷ []
+
+abbrev pub third_front : List Event
+third_front = feed_and_serve 1 ++ feed_and_serve 2 ++ feed_and_serve 3 ++ serve 0 4 ++ serve 0 5 ++ feed_and_serve 6 ++ feed_and_serve 7
+
+abbrev pub third_journal : List Event
+third_journal = third_front ++ serve 0 8 ++ serve 0 9 ++ serve 0 10
+
+-- what waits, and the command that waits for it
+abbrev pub tagged : World → List (Body × Option ℕ)
+tagged w = map (λ item. (item.body, item.tag)) w.pending
 
 abbrev pub BypassRow : Type 0
 BypassRow =
@@ -408,6 +431,16 @@ BypassRow =
     × (summary (world_of [] lone_inputs lone_journal) ≡ sums 2 (clean 3 1 0))
     × (is_journal [] lone_inputs 1000000 1 lone_journal ≡ true)
     × (bypass_world.told ≡ told_line 1 ∷ told_line 2 ∷ told_line 3 ∷ told_line 4 ∷ [])
+    × (tagged (world_of two_ports bypass_inputs bypass_front)
+    ≡ (Rebind (codes "lower") (link_id 1) (link_id 3) (node_id 3) (codes "lower"), Some 4)
+    ∷ (Rebind (codes "lower") (link_id 2) (link_id 3) (node_id 2) (codes "lower"), Some 4) ∷ [])
+    × (tagged (world_of two_ports third_inputs third_front)
+    ≡ (Rebind (codes "lower") (link_id 1) (link_id 4) (node_id 3) (codes "lower"), Some 5)
+    ∷ (Rebind (codes "lower") (link_id 2) (link_id 4) (node_id 2) (codes "lower"), Some 5)
+    ∷ (Leave (codes "x") (link_id 3), None) ∷ [])
+    × (tagged (world_of [] lone_inputs (feed_and_serve 1 ++ feed_and_serve 2)) ≡ (Leave (codes "a") (link_id 1), None) ∷ [])
+    × (summary (world_of two_ports third_inputs third_journal) ≡ sums 5 (clean 10 3 2))
+    × (is_journal two_ports third_inputs 1000000 1 third_journal ≡ true)
 
 -- 13. Messages of types: a hub that is set persistent stays without hooks; an ether tells the number that was stored.
 

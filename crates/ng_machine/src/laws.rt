@@ -1,7 +1,7 @@
 //! The laws of every run, and what they need of the types of nodes. Each function does nothing: its
 //! contract is the law.
 
-ghost use Rattle.ng_machine.specs.Laws.{RunIs, Once, InOrder, WriterAlone, Retired, Serial, PlainIsThere, PlainIsOne, PlainIsOrderly};
+ghost use Rattle.ng_machine.specs.Laws.{RunIs, Once, InOrder, WriterAlone, TakenOnce, WholeTakesNothing, Retired, Serial, PlainIsThere, PlainIsOne, PlainIsOrderly};
 ghost use Rattle.ng_machine.specs.Address.{ReadsAddress};
 ghost use Rattle.ng_machine.specs.Refusal.{FeedsUnlessRefused};
 ghost use Rattle.ng_machine.specs.Tests.{OrderlyByTest};
@@ -51,6 +51,16 @@ pub fn in_order()
 /// Where a writer is taken nothing else of its node is, and while an item is taken its node stays as it was.
 pub fn writer_alone()
     ensures { WriterAlone }
+{}
+
+/// An item is taken by one seat at most, and a seat has one item at most.
+pub fn taken_once()
+    ensures { TakenOnce }
+{}
+
+/// Where a journal is whole, ended by a Stop or with nothing left to do, nothing is taken.
+pub fn whole_takes_nothing()
+    ensures { WholeTakesNothing }
 {}
 
 /// Once a node is gone, nothing is accepted for it and nothing of it is applied.

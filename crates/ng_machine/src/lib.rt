@@ -28,7 +28,7 @@ pub use item::Item;
 pub use laws::{
     feeds_unless_refused, in_order, kinds_stay, once, orderly_by_test, plain_is_one,
     plain_is_orderly, plain_is_there, readers_spare, reads_address, retired, run_is, serial,
-    writer_alone,
+    taken_once, whole_takes_nothing, writer_alone,
 };
 pub use lost::Lost;
 pub use outcome::{Counts, Leaves, Outcome, Sends};
