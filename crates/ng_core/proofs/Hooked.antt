@@ -1,10 +1,10 @@
 -- The hooks of a row and their names.
-use Rattle.std.proofs.Common.{◌≡◌, ℕ, Bool, true, false, List, [], ◌∷◌, map, find, is_some, refl, sym, ◌∙◌, inl, inr}
+use Rattle.std.proofs.Common.{◌≡◌, ℕ, List, [], ◌∷◌, map, find, is_some, refl, inl, inr}
 use Rattle.std.specs.Str.{bytes_eq}
 use Rattle.std.proofs.lemmas.Bool.{cases_Bool}
 use Rattle.ng_base.specs.Names.{has_name}
-use Rattle.ng_core.specs.World.{is_named}
-use Rattle.ng_core.specs.declared.hook.Hook.{Hook}
+use Rattle.ng_machine.specs.World.{is_named}
+use Rattle.ng_machine.specs.declared.hook.Hook.{Hook}
 
 -- a hook of a name is found exactly where the name is among those of the hooks
 pub named_is_found : (hooks : List Hook) (name : List ℕ) → has_name (map (λ h. h.name) hooks) name ≡ is_some (find (is_named name) hooks)

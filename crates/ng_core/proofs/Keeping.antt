@@ -1,23 +1,22 @@
 -- How far a change moves the numbers of a world.
-use Rattle.std.proofs.Common.{◌≡◌, ℕ, zero, suc, ◌+◌, ◌*◌, ◌-◌, ◌<◌, ◌≤◌, Bool, true, false, List, [], ◌∷◌, ◌++◌, length, set, get_or, sum_by, nat_le, nat_lt, if◌then◌else◌, ◌==◌, Option, Some, None, refl, sym, ap, subst, ◌∙◌, arith, length-append, inl, inr}
-use Rattle.std.proofs.lemmas.List.Sums.{sum_by-cons, sum_by-append}
+use Rattle.std.proofs.Common.{◌≡◌, ℕ, zero, suc, ◌+◌, ◌*◌, ◌≤◌, Bool, true, false, List, [], ◌∷◌, ◌++◌, length, set, get_or, nat_le, nat_lt, Option, Some, None, refl, ap, ◌∙◌, arith, length-append}
 use Rattle.std.proofs.lemmas.Grind.{common_steps}
 use Rattle.std.proofs.Math.ListN.{length-set}
-use Rattle.std.proofs.lemmas.Bool.{cases_Bool}
-use Rattle.ng_base.specs.declared.errno.Errno.{Errno}
 use Rattle.ng_base.specs.declared.ids.NodeId.{NodeId}
 use Rattle.ng_base.specs.declared.ids.Stamp.{Stamp}
 use Rattle.ng_base.specs.declared.kind.Kind.{Kind}
-use Rattle.ng_node.specs.declared.body.Body.{Body}
-use Rattle.ng_node.specs.declared.body.Exit.{Exit}
-use Rattle.ng_node.specs.declared.body.Exit.TheVariants.{Wire, Host, Reader}
-use Rattle.ng_node.specs.declared.item.Item.{Item}
-use Rattle.ng_node.specs.declared.told.Told.{Told}
-use Rattle.ng_core.specs.declared.hook.Hook.{Hook}
-use Rattle.ng_core.specs.World.{World, Row, row_in, row_at, hook_at, kind_at, with_hook, blank_row}
-use Rattle.ng_core.specs.Change.{accept, accept_at, send_if, send_joined, send_by, post, frames, most_frames, arriving, tell, read_if, spooled, most_spool, leave, change, changed, Change, Sets, Notes, Posts, Makes, Links, Exits, Refuses}
-use Rattle.ng_core.specs.Effect.{exits, posts, counts_refused, makes, joined_hook}
-use Rattle.ng_core.specs.Numbers.{lost_total, made, hooks_in, hook_total}
+use Rattle.ng_machine.specs.declared.body.Body.{Body}
+use Rattle.ng_machine.specs.declared.body.Exit.{Exit}
+use Rattle.ng_machine.specs.declared.body.Exit.TheVariants.{Wire, Host, Reader}
+use Rattle.ng_machine.specs.declared.hook.Hook.{Hook}
+use Rattle.ng_machine.specs.declared.item.Item.{Item}
+use Rattle.ng_machine.specs.declared.told.Told.{Told}
+use Rattle.ng_machine.specs.World.{World, Row, row_at, hook_at, kind_at, is_there, port_of, with_hook, blank_row, new_hook, next_node, link_id}
+use Rattle.ng_machine.specs.Change.{accept, accept_at, send_if, send_joined, send_by, post, frames, most_frames, arriving, tell, wire_if, hand_up, read_if, spooled, most_spool, leave, set_row, change, changed, Sets, Notes, Makes, Links}
+use Rattle.ng_machine.specs.Effect.{exits, posts, counts_unless}
+use Rattle.ng_machine.specs.Generic.{makes}
+use Rattle.ng_machine.specs.Totals.{hook_total}
+use Rattle.ng_core.specs.Numbers.{made}
 use Rattle.ng_core.specs.Going.{IdsFrom, HasIdsInOrder}
 
 -- at most k more is made, and at most m nodes and links
@@ -68,18 +67,9 @@ ids_push : (low : ℕ) (items : List Item) (item : Item) (next : ℕ) → item.i
 ids_push low [] item next is ids = (omega arith, omega arith)
 ids_push low (x ∷ items) item next is ids = (ids.0, ids_push (x.id.0 + 1) items item next is ids.1)
 
--- no item is below the bound
-pub ids_low : (low : ℕ) (items : List Item) (next : ℕ) → IdsFrom low items next → (k : ℕ) (d : Item) → k < length items → low ≤ (get_or items k d).id.0
-ids_low low [] next ids k d inside = absurd (omega arith)
-ids_low low (x ∷ items) next ids zero d inside = ids.0
-ids_low low (x ∷ items) next ids (suc k) d inside =
-    let first : low ≤ x.id.0 = ids.0 in
-    let rest : x.id.0 + 1 ≤ (get_or items k d).id.0 = ids_low (x.id.0 + 1) items next ids.1 k d (omega arith) in
-    omega arith
-
 -- Items that are accepted
 
-accept_keeps : (w : World) (to : NodeId) (kind : Kind) (body : Body) (tag : Option ℕ) (stamp : Stamp) → Keeps 1 0 w (accept w to kind body tag stamp)
+pub accept_keeps : (w : World) (to : NodeId) (kind : Kind) (body : Body) (tag : Option ℕ) (stamp : Stamp) → Keeps 1 0 w (accept w to kind body tag stamp)
 accept_keeps w to kind body tag stamp = record {
   fed = refl;
   applies = refl;
@@ -120,71 +110,95 @@ posts_keep at stamp w (x ∷ sends) =
     let rest = posts_keep at stamp (post w at x.0 x.1 stamp) sends in
     within (1 + length sends) _ 0 0 _ _ (omega arith) (omega arith) (after 1 (length sends) 0 0 _ _ _ one rest)
 
+-- What is told
+
+pub tell_keeps : (w : World) (told : Told) → Keeps 0 0 w (tell w told)
+tell_keeps w told = record { fed = refl; applies = refl; made = omega arith; links = omega arith; nodes = omega arith; hooks = omega arith; spool = λ h. h; ids = λ h. h }
+
 -- Packets that leave
+
+wire_if_keeps : (w : World) (port : ℕ) (packet : List ℕ) (stamp : Stamp) (room : Bool) → room ≡ nat_le (spooled w packet) most_spool → Keeps 1 0 w (wire_if w port room packet stamp)
+wire_if_keeps w port packet stamp false is = record { fed = refl; applies = refl; made = omega arith; links = omega arith; nodes = omega arith; hooks = omega arith; spool = λ h. h; ids = λ h. h }
+wire_if_keeps w port packet stamp true is = record { fed = refl; applies = refl; made = omega arith; links = omega arith; nodes = omega arith; hooks = omega arith; spool = λ h. grind (arith, common_steps); ids = λ h. h }
 
 read_if_keeps : (w : World) (hook packet : List ℕ) (room : Bool) → room ≡ nat_le (spooled w packet) most_spool → Keeps 1 0 w (read_if w room hook packet)
 read_if_keeps w hook packet false is = record { fed = refl; applies = refl; made = omega arith; links = omega arith; nodes = omega arith; hooks = omega arith; spool = λ h. h; ids = λ h. h }
 read_if_keeps w hook packet true is = record { fed = refl; applies = refl; made = omega arith; links = omega arith; nodes = omega arith; hooks = omega arith; spool = λ h. grind (arith, common_steps); ids = λ h. h }
 
-pub leave_keeps : (w : World) (exit : Exit) (hook packet : List ℕ) → Keeps 1 0 w (leave w exit hook packet)
-leave_keeps w Reader hook packet = read_if_keeps w hook packet (nat_le (spooled w packet) most_spool) refl
-leave_keeps w Wire hook packet = within 0 1 0 0 w w (omega arith) (omega arith) (same w)
-leave_keeps w Host hook packet = within 0 1 0 0 w w (omega arith) (omega arith) (same w)
+hand_up_keeps : (w : World) (port : ℕ) → Keeps 1 0 w (hand_up w port)
+hand_up_keeps w port = record { fed = refl; applies = refl; made = omega arith; links = omega arith; nodes = omega arith; hooks = omega arith; spool = λ h. h; ids = λ h. h }
+
+pub leave_keeps : (w : World) (at : NodeId) (stamp : Stamp) (exit : Exit) (hook packet : List ℕ) → Keeps 1 0 w (leave w at stamp exit hook packet)
+leave_keeps w at stamp Wire hook packet = wire_if_keeps w (port_of at) packet stamp (nat_le (spooled w packet) most_spool) refl
+leave_keeps w at stamp Host hook packet = hand_up_keeps w (port_of at)
+leave_keeps w at stamp Reader hook packet = read_if_keeps w hook packet (nat_le (spooled w packet) most_spool) refl
 
 pub exits_keep : (at : NodeId) (stamp : Stamp) (w : World) (hook : List ℕ) (leaves : List (Exit × List ℕ)) → Keeps (length leaves) 0 w (changed at stamp w (exits hook leaves))
 exits_keep at stamp w hook [] = same w
 exits_keep at stamp w hook (x ∷ leaves) =
-    let one = leave_keeps w x.0 hook x.1 in
-    let rest = exits_keep at stamp (leave w x.0 hook x.1) hook leaves in
+    let one = leave_keeps w at stamp x.0 hook x.1 in
+    let rest = exits_keep at stamp (leave w at stamp x.0 hook x.1) hook leaves in
     within (1 + length leaves) _ 0 0 _ _ (omega arith) (omega arith) (after 1 (length leaves) 0 0 _ _ _ one rest)
 
-counts_if_keep : (at : NodeId) (stamp : Stamp) (w : World) (none : Bool) → Keeps 1 0 w (changed at stamp w (if none then [] else Notes Refuses ∷ []))
-counts_if_keep at stamp w true = within 0 1 0 0 w w (omega arith) (omega arith) (same w)
-counts_if_keep at stamp w false = record { fed = refl; applies = refl; made = omega arith; links = omega arith; nodes = omega arith; hooks = omega arith; spool = λ h. h; ids = λ h. h }
-
-pub counts_keep : (at : NodeId) (stamp : Stamp) (w : World) (errno : Errno) → Keeps 1 0 w (changed at stamp w (counts_refused errno))
-counts_keep at stamp w errno = counts_if_keep at stamp w (errno.0 == 0)
+pub counts_keep : (at : NodeId) (stamp : Stamp) (w : World) (fine : Bool) → Keeps 1 0 w (changed at stamp w (counts_unless fine))
+counts_keep at stamp w true = within 0 1 0 0 w w (omega arith) (omega arith) (same w)
+counts_keep at stamp w false = record { fed = refl; applies = refl; made = omega arith; links = omega arith; nodes = omega arith; hooks = omega arith; spool = λ h. h; ids = λ h. h }
 
 -- Nodes
 
 -- one node is another
-pub total_set : (nodes : List (Option Row)) (n : ℕ) (row : Row) (now : Option Row) → get_or nodes n None ≡ Some row → hook_total (set nodes n now) + length row.hooks ≡ hook_total nodes + hooks_in now
+pub total_set : (nodes : List (Option Row)) (n : ℕ) (row now : Row) → get_or nodes n None ≡ Some row → hook_total (set nodes n (Some now)) + length row.hooks ≡ hook_total nodes + length now.hooks
 total_set [] n row now there = absurd (cc there)
-total_set (was ∷ nodes) zero row now there =
-    let before = sum_by-cons hooks_in was nodes in
-    let behind = sum_by-cons hooks_in now nodes in
-    let same : hooks_in was ≡ length row.hooks = ap hooks_in there in
+total_set (None ∷ nodes) zero row now there = absurd (cc there)
+total_set (Some was ∷ nodes) zero row now there =
+    let same : was ≡ row = cc there in
+    let as_many : length was.hooks ≡ length row.hooks = ap (λ (r : Row). length r.hooks) same in
     omega arith
-total_set (was ∷ nodes) (suc n) row now there =
-    let before = sum_by-cons hooks_in was nodes in
-    let behind = sum_by-cons hooks_in was (set nodes n now) in
-    let rest = total_set nodes n row now there in
-    omega arith
+total_set (None ∷ nodes) (suc n) row now there = total_set nodes n row now there
+total_set (Some was ∷ nodes) (suc n) row now there = let rest = total_set nodes n row now there in omega arith
 
-pub total_push : (nodes : List (Option Row)) (now : Option Row) → hook_total (nodes ++ now ∷ []) ≡ hook_total nodes + hooks_in now
-total_push nodes now =
-    let both = sum_by-append hooks_in nodes (now ∷ []) in
-    let one : sum_by hooks_in (now ∷ []) ≡ hooks_in now = omega arith in
-    omega arith
+pub total_push : (nodes : List (Option Row)) (new : Row) → hook_total (nodes ++ Some new ∷ []) ≡ hook_total nodes + length new.hooks
+total_push [] new = omega arith
+total_push (None ∷ nodes) new = total_push nodes new
+total_push (Some row ∷ nodes) new = let rest = total_push nodes new in omega arith
 
-pub sets_keep : (at : NodeId) (stamp : Stamp) (w : World) (row now : Row) → row_at w at ≡ Some row → length now.hooks ≡ length row.hooks → Keeps 0 0 w (change at stamp w (Sets now))
-sets_keep at stamp w row now there same_hooks = record {
+set_row_keeps : (at : NodeId) (w : World) (row now : Row) (is_in : Bool) → row_at w at ≡ Some row → length now.hooks ≡ length row.hooks → Keeps 0 0 w (set_row w at now is_in)
+set_row_keeps at w row now false there as_many = same w
+set_row_keeps at w row now true there as_many = record {
   fed = refl;
   applies = refl;
   made = omega arith;
   links = omega arith;
   nodes = omega (arith, length-set {A = Option Row});
-  hooks = let total = total_set w.nodes at.0 row (Some now) there in omega arith;
+  hooks = let total = total_set w.nodes at.0 row now there in omega arith;
   spool = λ h. h;
   ids = λ h. h;
 }
 
-pub makes_keep : (at : NodeId) (stamp : Stamp) (w : World) (row : Row) (kind : Kind) (ours theirs : List ℕ) (node link : ℕ) → row_at w at ≡ Some row → Keeps 0 1 w (changed at stamp w (makes at row kind ours theirs node link))
-makes_keep at stamp w row kind ours theirs node link there =
-    let now : Row = with_hook row (joined_hook ours link node theirs) in
-    let new : Row = with_hook (blank_row None kind) (joined_hook theirs link at.0 ours) in
-    let set_total = total_set w.nodes at.0 row (Some now) there in
-    let push_total = total_push (set w.nodes at.0 (Some now)) (Some new) in
+pub sets_keep : (at : NodeId) (stamp : Stamp) (w : World) (row now : Row) → row_at w at ≡ Some row → length now.hooks ≡ length row.hooks → Keeps 0 0 w (change at stamp w (Sets now))
+sets_keep at stamp w row now there as_many = set_row_keeps at w row now (is_there w at) there as_many
+
+-- a node has one hook more, and a new one has one
+made_keeps : (at : NodeId) (stamp : Stamp) (w : World) (row : Row) (kind : Kind) (ours theirs : Hook) (is_in : Bool) → row_at w at ≡ Some row
+    → Keeps 0 1 w (changed at stamp (set_row w at (with_hook row ours) is_in) (Makes kind (with_hook (blank_row None kind) theirs) ∷ Notes Links ∷ []))
+made_keeps at stamp w row kind ours theirs false there =
+    let new : Row = with_hook (blank_row None kind) theirs in
+    let push_total = total_push w.nodes new in
+    record {
+      fed = refl;
+      applies = refl;
+      made = omega arith;
+      links = omega arith;
+      nodes = simp length-append (omega arith);
+      hooks = omega arith;
+      spool = λ h. h;
+      ids = λ h. h;
+    }
+made_keeps at stamp w row kind ours theirs true there =
+    let now : Row = with_hook row ours in
+    let new : Row = with_hook (blank_row None kind) theirs in
+    let set_total = total_set w.nodes at.0 row now there in
+    let push_total = total_push (set w.nodes at.0 (Some now)) new in
     record {
       fed = refl;
       applies = refl;
@@ -195,3 +209,7 @@ makes_keep at stamp w row kind ours theirs node link there =
       spool = λ h. h;
       ids = λ h. h;
     }
+
+pub makes_keep : (w : World) (item : Item) (row : Row) (kind : Kind) (ours theirs : List ℕ) → row_at w item.to ≡ Some row → Keeps 0 1 w (changed item.to item.stamp w (makes w item row kind ours theirs))
+makes_keep w item row kind ours theirs there =
+    made_keeps item.to item.stamp w row kind (new_hook ours (link_id w.next_link) (next_node w) theirs true) (new_hook theirs (link_id w.next_link) item.to ours true) (is_there w item.to) there

@@ -1,5 +1,7 @@
 pub mod Stocked
 pub mod Hooked
+pub mod Ordered
+pub mod Counts
 pub mod Made
 pub mod Keeping
 pub mod Few

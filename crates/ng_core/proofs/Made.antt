@@ -1,14 +1,18 @@
 -- What mkpeer may do, and what it leaves.
-use Rattle.std.proofs.Common.{◌≡◌, ℕ, ◌+◌, Bool, true, false, not, List, [], ◌∷◌, ◌++◌, set, IsSome, Option, Some, None, refl, sym, ap, ◌∙◌}
+use Rattle.std.proofs.Common.{◌≡◌, ℕ, Bool, true, false, not, List, [], ◌∷◌, IsSome, Option, Some, None, refl}
+use Rattle.std.specs.Prelude.{is_ok, Result, Ok, Err, if◌then◌else◌}
+use Rattle.ng_base.specs.declared.errno.Errno.{Errno}
 use Rattle.ng_base.specs.declared.kind.Kind.{Kind}
 use Rattle.ng_base.specs.declared.kind.Kind.TheVariants.{Hub, Hole, Echo, Tee, Split, One2many, Bridge, Vlan, Patch, Bpf, Ether, Socket}
-use Rattle.ng_base.specs.declared.ids.NodeId.{NodeId}
-use Rattle.ng_base.specs.declared.ids.Stamp.{Stamp}
-use Rattle.ng_node.specs.State.{State, kind_of, kind_of_part, blank_part, blank_of, takes_hook}
-use Rattle.ng_core.specs.Kinds.{has_kind, without_kind}
-use Rattle.ng_core.specs.World.{World, Row, row_in, kind_at, has_hook, with_hook, blank_row}
-use Rattle.ng_core.specs.Change.{changed}
-use Rattle.ng_core.specs.Effect.{first_refusal, is_fixed, make_refusal, IsMakeable, makes, joined_hook}
+use Rattle.ng_machine.specs.declared.item.Item.{Item}
+use Rattle.ng_machine.specs.Errors.{eperm, eexist, einval, enfile}
+use Rattle.ng_machine.specs.Generic.{mkpeer_refusal}
+use Rattle.ng_machine.specs.Rules.{takes_hook, may_of, is_fixed}
+use Rattle.ng_machine.specs.State.{kind_of_part, blank_part}
+use Rattle.ng_machine.specs.Stock.{has_kind}
+use Rattle.ng_machine.specs.Words.{first_refusal}
+use Rattle.ng_machine.specs.World.{World, Row, row_in, row_at, kind_at, has_hook}
+use Rattle.ng_core.specs.Make.{IsMakeable}
 
 pub some_row : (o : Option Row) → IsSome o → (row : Row) × (o ≡ Some row)
 some_row None there = absurd (cc there)
@@ -29,13 +33,7 @@ blank_kind Bpf = refl
 blank_kind Ether = refl
 blank_kind Socket = refl
 
-pub record Unrefused (stock : List Kind) (row : Row) (kind : Kind) (ours theirs : List ℕ) : Type 0 where
-  pub left : has_kind stock kind ≡ true
-  pub fresh : has_hook row ours ≡ false
-  pub peer_takes : takes_hook kind theirs ≡ true
-  pub takes : takes_hook (kind_at row) ours ≡ true
-
-none_refuses : (a b c d e : Bool) → first_refusal ((a, 1) ∷ (not b, 23) ∷ (c, 17) ∷ (not d, 22) ∷ (not e, 22) ∷ []) ≡ None → (b ≡ true) × (c ≡ false) × (d ≡ true) × (e ≡ true)
+none_refuses : (a b c d e : Bool) → first_refusal ((a, eperm) ∷ (not b, enfile) ∷ (c, eexist) ∷ (not d, einval) ∷ (not e, einval) ∷ []) ≡ None → (b ≡ true) × (c ≡ false) × (d ≡ true) × (e ≡ true)
 none_refuses true b c d e h = absurd (cc h)
 none_refuses false false c d e h = absurd (cc h)
 none_refuses false true true d e h = absurd (cc h)
@@ -43,17 +41,24 @@ none_refuses false true false false e h = absurd (cc h)
 none_refuses false true false true false h = absurd (cc h)
 none_refuses false true false true true h = (refl, refl, refl, refl)
 
-pub unrefused : (stock : List Kind) (row : Row) (kind : Kind) (ours theirs : List ℕ) → make_refusal stock row kind ours theirs ≡ None → Unrefused stock row kind ours theirs
-unrefused stock row kind ours theirs h =
-    let facts = none_refuses (is_fixed kind) (has_kind stock kind) (has_hook row ours) (takes_hook kind theirs) (takes_hook (kind_at row) ours) h in
-    record { left = facts.0; fresh = facts.1; peer_takes = facts.2; takes = facts.3 }
+-- where nothing refuses the order the node can be made
+pub unrefused : (w : World) (item : Item) (row : Row) (kind : Kind) (ours theirs : List ℕ) → row_at w item.to ≡ Some row → mkpeer_refusal w row kind ours theirs ≡ None → IsMakeable w.nodes w.stock item.to kind ours theirs
+unrefused w item row kind ours theirs there h =
+    let facts = none_refuses (is_fixed kind) (has_kind w.stock kind) (has_hook row ours) (takes_hook kind theirs) (takes_hook (kind_at row) ours) h in
+    record { row = row; there = there; left = facts.0; fresh = facts.1; peer_takes = facts.2; takes = facts.3 }
 
--- what a node may make at a row that is found
-pub unrefused_at : (nodes : List (Option Row)) (stock : List Kind) (at : NodeId) (kind : Kind) (ours theirs : List ℕ) → IsMakeable nodes stock at kind ours theirs → (row : Row) → row_in nodes at ≡ Some row → Unrefused stock row kind ours theirs
-unrefused_at nodes stock at kind ours theirs may row there = unrefused stock row kind ours theirs (let same : may.row ≡ row = cc (may.there, there) in rw (← same) may.unrefused)
+-- the row that is found is the one that takes the hook
+pub takes_at : (nodes : List (Option Row)) (stock : List Kind) (item : Item) (kind : Kind) (ours theirs : List ℕ) (may : IsMakeable nodes stock item.to kind ours theirs) (row : Row) → row_in nodes item.to ≡ Some row → may.row ≡ row
+takes_at nodes stock item kind ours theirs may row there = cc (may.there, there)
 
-pub made_world : (at : NodeId) (stamp : Stamp) (w : World) (row : Row) (kind : Kind) (ours theirs : List ℕ) (node link : ℕ) (nodes : List (Option Row)) (stock : List Kind) (next : ℕ)
-    → nodes ≡ set w.nodes at.0 (Some (with_hook row (joined_hook ours link node theirs))) ++ Some (with_hook (blank_row None kind) (joined_hook theirs link at.0 ours)) ∷ []
-    → stock ≡ without_kind w.stock kind → next ≡ w.next_link + 1
-    → record w { nodes = nodes; stock = stock; next_link = next } ≡ changed at stamp w (makes at row kind ours theirs node link)
-made_world at stamp w row kind ours theirs node link nodes stock next n s l = rw (n, s, l) refl
+-- a kind takes the hooks that it may have
+
+abbrev may_if : Bool → Result Unit Errno
+may_if takes = if takes then Ok tt else Err einval
+
+may_is : (takes : Bool) → is_ok (may_if takes) ≡ takes
+may_is true = refl
+may_is false = refl
+
+pub may_takes : (kind : Kind) (hook : List ℕ) → is_ok (may_of kind hook) ≡ takes_hook kind hook
+may_takes kind hook = may_is (takes_hook kind hook)

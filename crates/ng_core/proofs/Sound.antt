@@ -1,113 +1,263 @@
 -- Every event keeps the world sound.
-use Rattle.std.proofs.Common.{◌≡◌, ℕ, zero, suc, ◌+◌, ◌*◌, ◌<◌, ◌≤◌, ◌==◌, Bool, true, false, List, [], ◌∷◌, ◌++◌, length, find, Option, Some, None, refl, sym, ap, subst, ◌∙◌, arith, eq-eqb, cond}
+use Rattle.std.proofs.Common.{◌≡◌, ℕ, ◌+◌, ◌*◌, ◌^◌, ◌<◌, ◌≤◌, ◌==◌, ◌%◌, ◌&&◌, Bool, true, false, not, if◌then◌else◌, List, [], ◌∷◌, ◌++◌, length, codes, map, filter, find, Option, Some, None, refl, sym, subst, arith, eq-eqb}
+use Rattle.std.specs.Prelude.{Result, Ok, Err}
+use Rattle.std.proofs.lemmas.Bool.{ne_eqb}
+use Rattle.std.proofs.lemmas.List.{length-map}
 use Rattle.ng_base.specs.declared.errno.Errno.{Errno}
 use Rattle.ng_base.specs.declared.ids.ItemId.{ItemId}
 use Rattle.ng_base.specs.declared.ids.LinkId.{LinkId}
 use Rattle.ng_base.specs.declared.ids.NodeId.{NodeId}
 use Rattle.ng_base.specs.declared.ids.Stamp.{Stamp}
 use Rattle.ng_base.specs.declared.kind.Kind.{Kind}
-use Rattle.ng_node.specs.declared.body.Body.{Body}
-use Rattle.ng_node.specs.declared.body.Body.TheVariants.{Frame, Make}
-use Rattle.ng_node.specs.declared.body.Door.TheVariants.{Wire, Hook as ByHook}
-use Rattle.ng_node.specs.declared.item.Item.{Item}
-use Rattle.ng_node.specs.declared.outcome.Outcome.{Outcome}
-use Rattle.ng_node.specs.declared.told.Told.TheVariants.{Line}
-use Rattle.ng_node.specs.State.{State}
-use Rattle.ng_node.specs.Case.{outcome_of, part_after}
-use Rattle.ngctl_words.specs.declared.command.Command.{Command}
-use Rattle.ngctl_words.specs.declared.command.What.{What}
-use Rattle.ngctl_words.specs.declared.command.What.TheVariants.{Mkpeer, Write}
-use Rattle.ng_core.specs.declared.hook.Hook.{Hook}
-use Rattle.ng_core.specs.declared.input.Input.{Input}
-use Rattle.ng_core.specs.declared.input.Input.TheVariants.{Now}
-use Rattle.ng_core.specs.World.{World, Row, row_at, hook_at, state_of, own_node}
-use Rattle.ng_core.specs.Change.{Sets, Notes, Refuses, accept_at, arriving, most_spool, change, changed}
-use Rattle.ng_core.specs.Effect.{exits, posts, counts_refused, serve, make_refusal, make_unless, effect, effect_at, effected, is_hook_gone, has_item_id, without_item, take_out, drop_hook_gone, applied_if, apply_item, apply_found, apply}
-use Rattle.ng_core.specs.Feed.{write_if, write_by, feed_what, begin_command, feed_input}
-use Rattle.ng_core.specs.Numbers.{most_made, IsWithin, hook_total, made}
-use Rattle.ng_core.specs.Packets.{Fits, BodyFits, ItemsFit, PacketsFit, WhatFits, InputFits}
-use Rattle.ng_core.specs.Going.{IdsFrom, HasIdsInOrder, IsSound}
-use Rattle.ng_core.proofs.Keeping.{Keeps, same, after, within, ids_lower, accept_at_keeps, posts_keep, exits_keep, counts_keep, sets_keep, makes_keep}
-use Rattle.ng_core.proofs.Few.{size, few, changed_append}
-use Rattle.ng_core.proofs.Fitting.{accept_at_fits, posts_fit, exits_fit, counts_fit, told_push, OutcomeFits, outcome_fits}
+use Rattle.ng_base.specs.declared.kind.Kind.TheVariants.{Socket}
+use Rattle.ng_base.specs.Kind.{same_kind, kind_named}
+use Rattle.ng_message.specs.declared.message.Msg.{Msg as Message}
+use Rattle.ng_machine.specs.declared.body.Body.{Body}
+use Rattle.ng_machine.specs.declared.body.Body.TheVariants.{Frame, Msg, Join2, Join3, Undo, Leave, Rebind, Tick}
+use Rattle.ng_machine.specs.declared.body.Door.{Door}
+use Rattle.ng_machine.specs.declared.body.Door.TheVariants.{Wire, Hook as ByHook}
+use Rattle.ng_machine.specs.declared.command.What.{What}
+use Rattle.ng_machine.specs.declared.command.What.TheVariants.{Bad, Config, Connect, Help, List as Lists, Mkpeer, Msg as Asking, Name, Quit, Rmhook, Show, Shutdown, Status, Types, Write}
+use Rattle.ng_machine.specs.declared.hook.Hook.{Hook}
+use Rattle.ng_machine.specs.declared.input.Input.{Input}
+use Rattle.ng_machine.specs.declared.input.Input.TheVariants.{Command, Late, Packet, Tick as Ticks}
+use Rattle.ng_machine.specs.declared.item.Item.{Item}
+use Rattle.ng_machine.specs.declared.outcome.Outcome.{Outcome}
+use Rattle.ng_machine.specs.declared.told.Told.TheVariants.{Line, Refused}
+use Rattle.ng_machine.specs.Errors.{einval, enoent, enxio, enotconn}
+use Rattle.ng_machine.specs.Rules.{cookie_of, generic_cookie}
+use Rattle.ng_machine.specs.Body.{has_id}
+use Rattle.ng_machine.specs.Case.{outcome_of, part_after}
+use Rattle.ng_machine.specs.World.{World, Row, row_at, hook_at, kind_at, state_of, is_there, own_node, start_of}
+use Rattle.ng_machine.specs.Address.{Address, read_address, walk}
+use Rattle.ng_machine.specs.Change.{Sets, arriving, change, changed}
+use Rattle.ng_machine.specs.Retire.{refuse}
+use Rattle.ng_machine.specs.Connect.{unless}
+use Rattle.ng_machine.specs.Order.{Order, Shutdown as OrdersShutdown, Mkpeer as OrdersMkpeer, Connect as OrdersConnect, Rename as OrdersRename, Rmhook as OrdersRmhook, Asks as OrdersAnswer, with_names, mkpeer_of, read_name, read_order}
+use Rattle.ng_machine.specs.Generic.{makes, mkpeer, mkpeer_refusal, ordered_by}
+use Rattle.ng_machine.specs.Effect.{exits, posts, is_fine, counts_unless, serve, door_name, Sort, AnOrder, sort_by, message, message_by, effect, effect_at, effected, is_hook_gone, finish, drop_hook_gone, applied_if, apply}
+use Rattle.ng_machine.specs.Feed.{path_or_here, request_of, refuse_line, order_to, order_at, write_to, write_if, write_by, feed_request, begin_command, feed_next}
+use Rattle.ng_machine.specs.Run.{stop}
+use Rattle.ng_machine.specs.Totals.{hook_total}
+use Rattle.ng_core.specs.Numbers.{most_made, most_applies, IsWithin, HasRoom}
+use Rattle.ng_core.specs.Built.{Fits, BodyBuilt, IsMakeOrder, ItemsBuilt, IsBuilt, WhatBuilt, InputBuilt}
+use Rattle.ng_core.specs.Going.{IdsFrom, Messages, given, IsSound}
+use Rattle.ng_core.proofs.Keeping.{Keeps, same, after, within, ids_lower, tell_keeps, accept_keeps, accept_at_keeps, posts_keep, exits_keep, counts_keep, sets_keep, makes_keep}
+use Rattle.ng_core.proofs.Few.{size, few, row_hooks, changed_append}
+use Rattle.ng_core.proofs.Fitting.{tell_built, accept_built, accept_at_built, posts_built, exits_built, counts_built, set_row_built, makes_built, OutcomeFits, outcome_fits}
 
--- a step that keeps the numbers, and the packets short
+-- a step that keeps the numbers, and what is built
 pub record Steps (k m : ℕ) (w v : World) : Type 0 where
   pub numbers : Keeps k m w v
-  pub packets : PacketsFit w → PacketsFit v
+  pub built : IsBuilt w → IsBuilt v
+
+more_steps : (j k a b : ℕ) (w v : World) → j ≤ k → a ≤ b → Steps j a w v → Steps k b w v
+more_steps j k a b w v le l steps = record { numbers = within j k a b w v le l steps.numbers; built = steps.built }
+
+none_steps : (k m : ℕ) (w : World) → Steps k m w w
+none_steps k m w = record { numbers = within 0 k 0 m w w (omega arith) (omega arith) (same w); built = λ all. all }
 
 -- What comes of a packet
 
-spread_steps : (at : NodeId) (stamp : Stamp) (w : World) (hook : List ℕ) (out : Outcome) → size out ≤ most_made → OutcomeFits out → Steps most_made 0 w (changed at stamp w (exits hook out.leaves ++ (counts_refused out.errno ++ posts out.sends)))
+spread_steps : (at : NodeId) (stamp : Stamp) (w : World) (hook : List ℕ) (out : Outcome) → size out ≤ most_made → OutcomeFits out
+    → Steps most_made 0 w (changed at stamp w (exits hook out.leaves ++ (counts_unless (is_fine out.errno) ++ posts out.sends)))
 spread_steps at stamp w hook out little fits =
     let u : World = changed at stamp w (exits hook out.leaves) in
-    let v : World = changed at stamp u (counts_refused out.errno) in
+    let v : World = changed at stamp u (counts_unless (is_fine out.errno)) in
     let first = exits_keep at stamp w hook out.leaves in
-    let second = counts_keep at stamp u out.errno in
+    let second = counts_keep at stamp u (is_fine out.errno) in
     let third = posts_keep at stamp v out.sends in
     let both = after 1 (length out.sends) 0 0 u v (changed at stamp v (posts out.sends)) second third in
     let all = after (length out.leaves) (1 + length out.sends) 0 0 w u (changed at stamp v (posts out.sends)) first both in
-    rw (changed_append at stamp w (exits hook out.leaves) (counts_refused out.errno ++ posts out.sends), changed_append at stamp (changed at stamp w (exits hook out.leaves)) (counts_refused out.errno) (posts out.sends)) (record {
+    rw (
+      changed_append at stamp w (exits hook out.leaves) (counts_unless (is_fine out.errno) ++ posts out.sends),
+      changed_append at stamp (changed at stamp w (exits hook out.leaves)) (counts_unless (is_fine out.errno)) (posts out.sends),
+    ) (record {
       numbers = within (length out.leaves + (1 + length out.sends)) most_made 0 0 w _ little (omega arith) all;
-      packets = λ all_fit. posts_fit at stamp v out.sends fits.sends (counts_fit at stamp u out.errno (exits_fit at stamp w hook out.leaves fits.leaves all_fit));
+      built = λ built. posts_built at stamp v out.sends fits.sends (counts_built at stamp u (is_fine out.errno) (exits_built at stamp w hook out.leaves fits.leaves built));
     })
 
-serve_steps : (at : NodeId) (stamp : Stamp) (w : World) (row : Row) (body : Body) (hook : List ℕ) → row_at w at ≡ Some row → BodyFits body → Steps most_made 0 w (changed at stamp w (serve row body hook (outcome_of (state_of row) body)))
-serve_steps at stamp w row body hook there fits =
-    let now : Row = record row { part = part_after (state_of row) body } in
+-- what a row's packet makes, where all rows together have so many hooks
+few_at : (row : Row) (n : ℕ) (door : Door) (link : Option LinkId) (packet : List ℕ) → length row.hooks ≤ n → 2 + n ≤ most_made → size (outcome_of (state_of row) (Frame door link packet)) ≤ most_made
+few_at row n door link packet le room =
+    let little : size (outcome_of (state_of row) (Frame door link packet)) ≤ 2 + length (state_of row).hooks = few (state_of row) door link packet in
+    let name : Hook → List ℕ = λ h. h.name in
+    let as_many : length (map name row.hooks) ≡ length row.hooks = length-map row.hooks name in
+    omega arith
+
+serve_steps : (at : NodeId) (stamp : Stamp) (w : World) (row : Row) (door : Door) (link : Option LinkId) (packet : List ℕ) (hook : List ℕ)
+    → 2 + hook_total w.nodes ≤ most_made → row_at w at ≡ Some row → Fits packet
+    → Steps most_made 0 w (changed at stamp w (serve row (Frame door link packet) hook (outcome_of (state_of row) (Frame door link packet))))
+serve_steps at stamp w row door link packet hook room there fits =
+    let now : Row = record row { part = part_after (state_of row) (Frame door link packet) } in
     let u : World = change at stamp w (Sets now) in
     let set = sets_keep at stamp w row now there refl in
-    let rest = spread_steps at stamp u hook (outcome_of (state_of row) body) (few (state_of row) body) (outcome_fits (state_of row) body fits) in
+    let little = few_at row (hook_total w.nodes) door link packet (row_hooks w.nodes at row there) room in
+    let rest = spread_steps at stamp u hook (outcome_of (state_of row) (Frame door link packet)) little (outcome_fits (state_of row) door link packet fits) in
     record {
       numbers = within (0 + most_made) most_made 0 0 w _ (omega arith) (omega arith) (after 0 most_made 0 0 w u _ set rest.numbers);
-      packets = λ all_fit. rest.packets (record { pending = all_fit.pending; told = all_fit.told });
+      built = λ built. rest.built (set_row_built w at now (is_there w at) built);
     }
 
-none_steps : (w : World) → Steps most_made 1 w w
-none_steps w = record { numbers = within 0 most_made 0 1 w w (omega arith) (omega arith) (same w); packets = λ all_fit. all_fit }
+-- What comes of an order to make a node
 
-make_steps : (at : NodeId) (stamp : Stamp) (w : World) (row : Row) (kind : Kind) (ours theirs : List ℕ) (refusal : Option Errno) → row_at w at ≡ Some row → Steps most_made 1 w (changed at stamp w (make_unless w at row kind ours theirs refusal))
-make_steps at stamp w row kind ours theirs (Some errno) there = none_steps w
-make_steps at stamp w row kind ours theirs None there = record {
-  numbers = within 0 most_made 1 1 w _ (omega arith) (omega arith) (makes_keep at stamp w row kind ours theirs (length w.nodes) w.next_link there);
-  packets = λ all_fit. record { pending = all_fit.pending; told = all_fit.told };
+refuse_steps : (at : NodeId) (stamp : Stamp) (w : World) (tag : Option ℕ) (errno : Errno) → Steps most_made 1 w (changed at stamp w (refuse tag errno))
+refuse_steps at stamp w None errno = none_steps most_made 1 w
+refuse_steps at stamp w (Some command) errno = record {
+  numbers = within 0 most_made 0 1 w _ (omega arith) (omega arith) (tell_keeps w (Refused command errno []));
+  built = tell_built w (Refused command errno []) tt;
 }
 
-effect_steps : (at : NodeId) (stamp : Stamp) (w : World) (row : Row) (body : Body) → row_at w at ≡ Some row → BodyFits body → Steps most_made 1 w (changed at stamp w (effect_at w at row body))
-effect_steps at stamp w row (Frame (ByHook hook) link packet) there fits =
-    let served = serve_steps at stamp w row (Frame (ByHook hook) link packet) hook there fits in
-    record { numbers = within most_made most_made 0 1 w _ (omega arith) (omega arith) served.numbers; packets = served.packets }
-effect_steps at stamp w row (Frame Wire link packet) there fits = none_steps w
-effect_steps at stamp w row (Make kind ours theirs) there fits = make_steps at stamp w row kind ours theirs (make_refusal w.stock row kind ours theirs) there
-
-effected_from : (at : NodeId) (stamp : Stamp) (w : World) (body : Body) (found : Option Row) → row_at w at ≡ found → BodyFits body → Steps most_made 1 w (changed at stamp w (effect w at found body))
-effected_from at stamp w body None is fits = none_steps w
-effected_from at stamp w body (Some row) is fits = effect_steps at stamp w row body is fits
-
-pub effected_steps : (w : World) (at : NodeId) (stamp : Stamp) (body : Body) → BodyFits body → Steps most_made 1 w (effected w at stamp body)
-effected_steps w at stamp body fits = effected_from at stamp w body (row_at w at) refl fits
-
-applied_steps : (w : World) (id : ItemId) (at : NodeId) (stamp : Stamp) (body : Body) (gone : Bool) → BodyFits body → Steps most_made 1 w (applied_if w id at stamp body gone)
-applied_steps w id at stamp body true fits = record {
-  numbers = within 0 most_made 0 1 w _ (omega arith) (omega arith) (record { fed = refl; applies = refl; made = omega arith; links = omega arith; nodes = omega arith; hooks = omega arith; spool = λ h. h; ids = λ h. h });
-  packets = λ all_fit. record { pending = all_fit.pending; told = all_fit.told };
+unless_steps : (w : World) (item : Item) (row : Row) (kind : Kind) (ours theirs : List ℕ) (refusal : Option Errno) → row_at w item.to ≡ Some row
+    → Steps most_made 1 w (changed item.to item.stamp w (unless refusal item.tag (makes w item row kind ours theirs)))
+unless_steps w item row kind ours theirs (Some errno) there = refuse_steps item.to item.stamp w item.tag errno
+unless_steps w item row kind ours theirs None there = record {
+  numbers = within 0 most_made 1 1 w _ (omega arith) (omega arith) (makes_keep w item row kind ours theirs there);
+  built = makes_built w item row kind ours theirs;
 }
-applied_steps w id at stamp body false fits = effected_steps w at stamp body fits
+
+mkpeer_steps : (w : World) (item : Item) (row : Row) (kind : Option Kind) (ours theirs : List ℕ) → row_at w item.to ≡ Some row
+    → Steps most_made 1 w (changed item.to item.stamp w (mkpeer w item row kind ours theirs))
+mkpeer_steps w item row None ours theirs there = refuse_steps item.to item.stamp w item.tag enxio
+mkpeer_steps w item row (Some kind) ours theirs there = unless_steps w item row kind ours theirs (mkpeer_refusal w row kind ours theirs) there
+
+-- an order that was read, and is to make a node where it is fine
+abbrev pub Orders : Result Order Errno → Type 0
+Orders (Err errno) = Unit {0}
+Orders (Ok (OrdersMkpeer kind ours theirs)) = Unit {0}
+Orders (Ok OrdersShutdown) = ⊥
+Orders (Ok (OrdersConnect path ours theirs)) = ⊥
+Orders (Ok (OrdersRename name)) = ⊥
+Orders (Ok (OrdersRmhook hook)) = ⊥
+Orders (Ok (OrdersAnswer question)) = ⊥
+
+names_make : (kind : List ℕ) (ours theirs : Option (List ℕ)) → Orders (with_names (OrdersMkpeer kind) ours theirs)
+names_make kind None theirs = tt
+names_make kind (Some ours) None = tt
+names_make kind (Some ours) (Some theirs) = tt
+
+fields_make : (kind ours theirs : Option (List ℕ)) → Orders (mkpeer_of kind ours theirs)
+fields_make None ours theirs = tt
+fields_make (Some kind) ours theirs = names_make kind ours theirs
+
+length_makes : (fits : Bool) (kind ours theirs : Option (List ℕ)) → Orders (if fits then mkpeer_of kind ours theirs else Err einval)
+length_makes true kind ours theirs = fields_make kind ours theirs
+length_makes false kind ours theirs = tt
+
+two_makes : (args : List ℕ) → Orders (read_order 2 args)
+two_makes args = length_makes (length args == 96) (read_name args 0) (read_name args 32) (read_name args 64)
+
+order_makes : (number : ℕ) (args : List ℕ) → number ≡ 2 → Orders (read_order number args)
+order_makes number args is = subst (λ (n : ℕ). Orders (read_order n args)) (sym is) (two_makes args)
+
+ordered_steps : (w : World) (item : Item) (row : Row) (msg : Message) (order : Result Order Errno) → Orders order → row_at w item.to ≡ Some row
+    → Steps most_made 1 w (changed item.to item.stamp w (ordered_by w item row msg order))
+ordered_steps w item row msg (Err errno) is there = refuse_steps item.to item.stamp w item.tag errno
+ordered_steps w item row msg (Ok (OrdersMkpeer kind ours theirs)) is there = mkpeer_steps w item row (kind_named kind) ours theirs there
+ordered_steps w item row msg (Ok OrdersShutdown) is there = absurd is
+ordered_steps w item row msg (Ok (OrdersConnect path ours theirs)) is there = absurd is
+ordered_steps w item row msg (Ok (OrdersRename name)) is there = absurd is
+ordered_steps w item row msg (Ok (OrdersRmhook hook)) is there = absurd is
+ordered_steps w item row msg (Ok (OrdersAnswer question)) is there = absurd is
+
+-- a message of the generic cookie that is no answer is an order
+sort_at : (kind : Kind) (cookie flags : ℕ) → cookie ≡ generic_cookie → flags ≡ 0 → sort_by (flags % 2 == 1 && same_kind kind Socket) (cookie == generic_cookie) (cookie == cookie_of kind) ≡ AnOrder
+sort_at kind cookie flags generic asks = rw (generic, asks) refl
+
+message_steps : (w : World) (item : Item) (row : Row) (msg : Message) → IsMakeOrder msg → row_at w item.to ≡ Some row → Steps most_made 1 w (changed item.to item.stamp w (message w item row msg))
+message_steps w item row msg is there =
+    subst (λ (s : Sort). Steps most_made 1 w (changed item.to item.stamp w (message_by w item row msg s))) (sym (sort_at (kind_at row) msg.header.typecookie msg.header.flags is.generic is.asks))
+    (ordered_steps w item row msg (read_order msg.header.cmd msg.args) (order_makes msg.header.cmd msg.args is.number) there)
+
+-- What comes of an item
+
+frame_steps : (w : World) (item : Item) (row : Row) (door : Door) (link : Option LinkId) (packet : List ℕ) → 2 + hook_total w.nodes ≤ most_made → row_at w item.to ≡ Some row
+    → Fits packet → Steps most_made 1 w (changed item.to item.stamp w (effect_at w item row (Frame door link packet)))
+frame_steps w item row door link packet room there fits =
+    more_steps most_made most_made 0 1 w _ (omega arith) (omega arith) (serve_steps item.to item.stamp w row door link packet (door_name door) room there fits)
+
+effect_steps : (w : World) (item : Item) (row : Row) (body : Body) → 2 + hook_total w.nodes ≤ most_made → row_at w item.to ≡ Some row → BodyBuilt body
+    → Steps most_made 1 w (changed item.to item.stamp w (effect_at w item row body))
+effect_steps w item row (Frame (ByHook hook) link packet) room there built = frame_steps w item row (ByHook hook) link packet room there built
+effect_steps w item row (Frame Wire link packet) room there built = absurd built
+effect_steps w item row (Msg msg) room there built = message_steps w item row msg built there
+effect_steps w item row (Join2 hook link peer peer_hook) room there built = absurd built
+effect_steps w item row (Join3 hook link) room there built = absurd built
+effect_steps w item row (Undo hook link errno) room there built = absurd built
+effect_steps w item row (Leave hook link) room there built = absurd built
+effect_steps w item row (Rebind hook old new peer peer_hook) room there built = absurd built
+effect_steps w item row (Tick seconds) room there built = absurd built
+
+effected_from : (w : World) (item : Item) (found : Option Row) → 2 + hook_total w.nodes ≤ most_made → row_at w item.to ≡ found → BodyBuilt item.body
+    → Steps most_made 1 w (changed item.to item.stamp w (effect w item found))
+effected_from w item None room is built = none_steps most_made 1 w
+effected_from w item (Some row) room is built = effect_steps w item row item.body room is built
+
+pub effected_steps : (w : World) (item : Item) → 2 + hook_total w.nodes ≤ most_made → BodyBuilt item.body → Steps most_made 1 w (effected w item)
+effected_steps w item room built = effected_from w item (row_at w item.to) room refl built
+
+finish_steps : (w : World) (id : ItemId) → Steps 0 0 w (finish w id)
+finish_steps w id = record {
+  numbers = record { fed = refl; applies = refl; made = omega arith; links = omega arith; nodes = omega arith; hooks = omega arith; spool = λ h. h; ids = λ h. h };
+  built = λ all. record { pending = all.pending; told = all.told };
+}
+
+drop_steps : (w : World) (id : ItemId) → Steps 0 0 w (drop_hook_gone w id)
+drop_steps w id = record {
+  numbers = record { fed = refl; applies = refl; made = omega arith; links = omega arith; nodes = omega arith; hooks = omega arith; spool = λ h. h; ids = λ h. h };
+  built = λ all. record { pending = all.pending; told = all.told };
+}
+
+applied_steps : (w : World) (item : Item) (gone : Bool) → 2 + hook_total w.nodes ≤ most_made → BodyBuilt item.body → Steps most_made 1 w (applied_if w item gone)
+applied_steps w item true room built = more_steps 0 most_made 0 1 w _ (omega arith) (omega arith) (drop_steps w item.id)
+applied_steps w item false room built =
+    let first = finish_steps w item.id in
+    let rest = effected_steps (finish w item.id) item room built in
+    record {
+      numbers = within (0 + most_made) most_made (0 + 1) 1 w _ (omega arith) (omega arith) (after 0 most_made 0 1 w (finish w item.id) _ first.numbers rest.numbers);
+      built = λ all. rest.built (first.built all);
+    }
 
 -- An apply of the first item
 
-without-first : (item : Item) (rest : List Item) → without_item (item ∷ rest) item.id ≡ rest
-without-first item rest = let is : has_item_id item.id item ≡ true = eq-eqb item.id.0 item.id.0 refl in rw is refl
+-- no later item has the first's number
+without_none : (id : ItemId) (low : ℕ) (items : List Item) (next : ℕ) → id.0 < low → IdsFrom low items next → filter (λ item. not (has_id id item)) items ≡ items
+without_none id low [] next lt ids = refl
+without_none id low (x ∷ items) next lt ids =
+    let least : low ≤ x.id.0 = ids.0 in
+    let apart : has_id id x ≡ false = ne_eqb x.id.0 id.0 (λ (e : x.id.0 ≡ id.0). omega arith) in
+    let rest : filter (λ (item : Item). not (has_id id item)) items ≡ items = without_none id (x.id.0 + 1) items next (omega arith) ids.1 in
+    rw (apart, rest) refl
 
-found-first : (item : Item) (rest : List Item) → find (has_item_id item.id) (item ∷ rest) ≡ Some item
-found-first item rest = let is : has_item_id item.id item ≡ true = eq-eqb item.id.0 item.id.0 refl in rw is refl
+without_first : (item : Item) (rest : List Item) (next : ℕ) → IdsFrom 0 (item ∷ rest) next → filter (λ other. not (has_id item.id other)) (item ∷ rest) ≡ rest
+without_first item rest next ids =
+    let is : has_id item.id item ≡ true = eq-eqb item.id.0 item.id.0 refl in
+    let none : filter (λ (other : Item). not (has_id item.id other)) rest ≡ rest = without_none item.id (item.id.0 + 1) rest next (omega arith) ids.1 in
+    rw is none
+
+found_first : (item : Item) (rest : List Item) → find (has_id item.id) (item ∷ rest) ≡ Some item
+found_first item rest = let is : has_id item.id item ≡ true = eq-eqb item.id.0 item.id.0 refl in rw is refl
 
 abbrev pub left_by : World → List Item → World
 left_by w rest = record w { pending = rest; applies = w.applies + 1 }
 
-pub apply-first : (w : World) (item : Item) (rest : List Item) → w.pending ≡ item ∷ rest
-    → apply w item.id ≡ applied_if (left_by w rest) item.id item.to item.stamp item.body (is_hook_gone (row_at w item.to) item.body)
-apply-first w item rest is = rw (is, found-first item rest, without-first item rest) refl
+-- the ids and the bodies of what is pending, split
+split_ids : (w : World) (item : Item) (rest : List Item) → w.pending ≡ item ∷ rest → IsSound w → IdsFrom 0 (item ∷ rest) w.next_item
+split_ids w item rest is sound = subst (λ (l : List Item). IdsFrom 0 l w.next_item) is sound.in_order
+
+split_built : (w : World) (item : Item) (rest : List Item) → w.pending ≡ item ∷ rest → IsSound w → ItemsBuilt (item ∷ rest)
+split_built w item rest is sound = subst ItemsBuilt is sound.built.pending
+
+pub apply_first : (w : World) (item : Item) (rest : List Item) → w.pending ≡ item ∷ rest → IsSound w
+    → apply w item.id ≡ applied_if (record w { pending = rest; applies = w.applies + 1 }) item (is_hook_gone (row_at w item.to) item.body)
+apply_first w item rest is sound = rw (is, found_first item rest, without_first item rest w.next_item (split_ids w item rest is sound)) refl
+
+apply_steps : (w : World) (item : Item) (rest : List Item) → w.pending ≡ item ∷ rest → w.applies < most_applies → IsSound w → Steps most_made 1 (left_by w rest) (apply w item.id)
+apply_steps w item rest is few_so_far sound =
+    let built : ItemsBuilt (item ∷ rest) = split_built w item rest is sound in
+    let hooks : hook_total w.nodes ≤ 2 * w.applies = sound.within.hooks in
+    subst (λ (v : World). Steps most_made 1 (left_by w rest) v) (sym (apply_first w item rest is sound))
+    (applied_steps (left_by w rest) item (is_hook_gone (row_at w item.to) item.body) (omega arith) built.0)
 
 -- the numbers after one apply
 applied_within : (w v : World) (rest : List Item) → Keeps most_made 1 (left_by w rest) v → IsWithin w → IsWithin v
@@ -119,44 +269,78 @@ applied_within w v rest k h = record {
   spool = k.spool h.spool;
 }
 
-pub apply_sound : (w : World) (item : Item) (rest : List Item) → w.pending ≡ item ∷ rest → IsSound w → IsSound (apply w item.id)
-apply_sound w item rest is sound =
-    let ids : IdsFrom 0 (item ∷ rest) w.next_item = subst (λ (l : List Item). IdsFrom 0 l w.next_item) is sound.in_order in
-    let fit : ItemsFit (item ∷ rest) = subst ItemsFit is sound.packets.pending in
-    let steps = applied_steps (left_by w rest) item.id item.to item.stamp item.body (is_hook_gone (row_at w item.to) item.body) fit.0 in
-    rw (apply-first w item rest is) (record {
+pub apply_sound : (w : World) (item : Item) (rest : List Item) → w.pending ≡ item ∷ rest → w.applies < most_applies → IsSound w → IsSound (apply w item.id)
+apply_sound w item rest is few_so_far sound =
+    let ids : IdsFrom 0 (item ∷ rest) w.next_item = split_ids w item rest is sound in
+    let built : ItemsBuilt (item ∷ rest) = split_built w item rest is sound in
+    let steps = apply_steps w item rest is few_so_far sound in
+    record {
       in_order = steps.numbers.ids (ids_lower (item.id.0 + 1) 0 rest w.next_item (omega arith) ids.1);
       within = applied_within w _ rest steps.numbers sound.within;
-      packets = steps.packets (record { pending = fit.1; told = sound.packets.told });
-    })
+      built = steps.built (record { pending = built.1; told = sound.built.told });
+    }
 
-pub apply_counts : (w : World) (item : Item) (rest : List Item) → w.pending ≡ item ∷ rest → IsSound w → ((apply w item.id).applies ≡ w.applies + 1) × ((apply w item.id).fed ≡ w.fed)
-apply_counts w item rest is sound =
-    let fit : ItemsFit (item ∷ rest) = subst ItemsFit is sound.packets.pending in
-    let steps = applied_steps (left_by w rest) item.id item.to item.stamp item.body (is_hook_gone (row_at w item.to) item.body) fit.0 in
-    rw (apply-first w item rest is) (steps.numbers.applies, steps.numbers.fed)
+pub apply_counts : (w : World) (item : Item) (rest : List Item) → w.pending ≡ item ∷ rest → w.applies < most_applies → IsSound w
+    → ((apply w item.id).applies ≡ w.applies + 1) × ((apply w item.id).fed ≡ w.fed)
+apply_counts w item rest is few_so_far sound = let steps = apply_steps w item rest is few_so_far sound in (steps.numbers.applies, steps.numbers.fed)
 
 -- A feed
 
-write_if_steps : (w : World) (hook : Hook) (joined : Bool) (packet : List ℕ) → Fits packet → Steps 1 0 w (write_if w hook joined packet)
-write_if_steps w hook false packet fits = record { numbers = within 0 1 0 0 w w (omega arith) (omega arith) (same w); packets = λ all_fit. all_fit }
-write_if_steps w hook true packet fits = record {
-  numbers = accept_at_keeps w hook.peer.node (row_at w hook.peer.node) (arriving hook packet) None w.clock;
-  packets = accept_at_fits w hook.peer.node (row_at w hook.peer.node) (arriving hook packet) None w.clock fits;
+refuse_line_steps : (w : World) (command : ℕ) (errno : Errno) (why : List ℕ) → Steps 1 0 w (refuse_line w command errno why)
+refuse_line_steps w command errno why = record {
+  numbers = within 0 1 0 0 w _ (omega arith) (omega arith) (tell_keeps w (Refused command errno why));
+  built = tell_built w (Refused command errno why) tt;
 }
 
-write_by_steps : (w : World) (hook : Option Hook) (packet : List ℕ) → Fits packet → Steps 1 0 w (write_by w hook packet)
-write_by_steps w None packet fits = record { numbers = within 0 1 0 0 w w (omega arith) (omega arith) (same w); packets = λ all_fit. all_fit }
-write_by_steps w (Some hook) packet fits = write_if_steps w hook hook.joined packet fits
-
-feed_what_steps : (w : World) (number : ℕ) (what : What) → WhatFits what → Steps 1 0 w (feed_what w number what)
-feed_what_steps w number (Mkpeer kind hook peerhook) fits = record {
-  numbers = accept_at_keeps w own_node (row_at w own_node) (Make kind hook peerhook) (Some number) w.clock;
-  packets = accept_at_fits w own_node (row_at w own_node) (Make kind hook peerhook) (Some number) w.clock tt;
+write_to_steps : (w : World) (command : ℕ) (hook : Hook) (row : Option Row) (packet : List ℕ) → Fits packet → Steps 1 0 w (write_to w command hook row packet)
+write_to_steps w command hook None packet fits = refuse_line_steps w command enotconn []
+write_to_steps w command hook (Some row) packet fits = record {
+  numbers = accept_keeps w hook.peer.node (kind_at row) (arriving hook packet) None w.clock;
+  built = accept_built w hook.peer.node (kind_at row) (arriving hook packet) None w.clock fits;
 }
-feed_what_steps w number (Write hook packet) fits = write_by_steps w (hook_at (row_at w own_node) hook) packet fits
 
-fed_within : (w v : World) (number : ℕ) → Keeps 1 0 (begin_command w number) v → IsWithin w → IsWithin v
+write_if_steps : (w : World) (command : ℕ) (hook : Hook) (joined : Bool) (packet : List ℕ) → Fits packet → Steps 1 0 w (write_if w command hook joined packet)
+write_if_steps w command hook false packet fits = refuse_line_steps w command enotconn []
+write_if_steps w command hook true packet fits = write_to_steps w command hook (row_at w hook.peer.node) packet fits
+
+write_by_steps : (w : World) (command : ℕ) (hook : Option Hook) (packet : List ℕ) → Fits packet → Steps 1 0 w (write_by w command hook packet)
+write_by_steps w command None packet fits = refuse_line_steps w command enotconn []
+write_by_steps w command (Some hook) packet fits = write_if_steps w command hook hook.joined packet fits
+
+-- the own node's address leads to it, where it is there
+order_if_steps : (w : World) (command : ℕ) (found : Option NodeId) (name args : List ℕ) → Steps 1 0 w (order_to w command found 2 name args)
+order_if_steps w command None name args = refuse_line_steps w command enoent []
+order_if_steps w command (Some to) name args = record {
+  numbers = accept_at_keeps w to (row_at w to) _ (Some command) w.clock;
+  built = accept_at_built w to (row_at w to) _ (Some command) w.clock (record { generic = refl; number = refl; asks = refl });
+}
+
+order_steps : (w : World) (command : ℕ) (address : Option Address) (name args : List ℕ) → Steps 1 0 w (order_at w command address 2 name args)
+order_steps w command None name args = refuse_line_steps w command einval (codes "bad path")
+order_steps w command (Some address) name args = order_if_steps w command (walk w own_node address) name args
+
+what_steps : (inputs : List Input) (messages : Messages) (w : World) (command : ℕ) (what : What) → WhatBuilt what → Steps 1 0 w (feed_request (given inputs messages) w command (request_of what))
+what_steps inputs messages w command (Mkpeer path kind_name hook peerhook) built = order_steps w command (read_address (path_or_here path)) _ _
+what_steps inputs messages w command (Write hook bytes) built = write_by_steps w command (hook_at (row_at w own_node) hook) bytes built
+what_steps inputs messages w command (Bad why) built = absurd built
+what_steps inputs messages w command (Config path args) built = absurd built
+what_steps inputs messages w command (Connect path relpath hook peerhook) built = absurd built
+what_steps inputs messages w command (Help of) built = absurd built
+what_steps inputs messages w command (Lists named) built = absurd built
+what_steps inputs messages w command (Asking path of args) built = absurd built
+what_steps inputs messages w command (Name path name) built = absurd built
+what_steps inputs messages w command Quit built = absurd built
+what_steps inputs messages w command (Rmhook path hook) built = absurd built
+what_steps inputs messages w command (Show brief path) built = absurd built
+what_steps inputs messages w command (Shutdown path) built = absurd built
+what_steps inputs messages w command (Status path) built = absurd built
+what_steps inputs messages w command Types built = absurd built
+
+-- a world that has one input more, and whose command's line is told
+abbrev pub begun : World → ℕ → World
+begun w number = begin_command (record w { fed = w.fed + 1 }) number
+
+fed_within : (w v : World) (number : ℕ) → Keeps 1 0 (begun w number) v → IsWithin w → IsWithin v
 fed_within w v number k h = record {
   made = omega (arith, k.made, k.fed, k.applies, h.made);
   links = omega (arith, k.links, k.applies, h.links);
@@ -165,16 +349,53 @@ fed_within w v number k h = record {
   spool = k.spool h.spool;
 }
 
-pub feed_sound : (w : World) (input : Input) → InputFits input → IsSound w → IsSound (feed_input w input)
-feed_sound w (Now command) fits sound =
-    let steps = feed_what_steps (begin_command w command.number) command.number command.what fits in
+begun_built : (w : World) (number : ℕ) → IsBuilt w → IsBuilt (begun w number)
+begun_built w number all = tell_built (record w { fed = w.fed + 1; command = number }) (Line number) tt (record { pending = all.pending; told = all.told })
+
+pub feed_sound : (inputs : List Input) (messages : Messages) (w : World) (input : Input) → InputBuilt input → IsSound w → IsSound (feed_next (given inputs messages) w (Some input))
+feed_sound inputs messages w (Command command) built sound =
+    let steps = what_steps inputs messages (begun w command.number) command.number command.what built in
     record {
       in_order = steps.numbers.ids sound.in_order;
       within = fed_within w _ command.number steps.numbers sound.within;
-      packets = steps.packets (record { pending = sound.packets.pending; told = told_push w.told (Line command.number) sound.packets.told tt });
+      built = steps.built (begun_built w command.number sound.built);
     }
+feed_sound inputs messages w (Late command) built sound = absurd built
+feed_sound inputs messages w (Packet port stamp packet) built sound = absurd built
+feed_sound inputs messages w (Ticks seconds) built sound = absurd built
 
-pub feed_counts : (w : World) (input : Input) → InputFits input → ((feed_input w input).fed ≡ w.fed + 1) × ((feed_input w input).applies ≡ w.applies)
-feed_counts w (Now command) fits =
-    let steps = feed_what_steps (begin_command w command.number) command.number command.what fits in
+pub feed_counts : (inputs : List Input) (messages : Messages) (w : World) (input : Input) → InputBuilt input
+    → ((feed_next (given inputs messages) w (Some input)).fed ≡ w.fed + 1) × ((feed_next (given inputs messages) w (Some input)).applies ≡ w.applies)
+feed_counts inputs messages w (Command command) built =
+    let steps = what_steps inputs messages (begun w command.number) command.number command.what built in
     (steps.numbers.fed, steps.numbers.applies)
+feed_counts inputs messages w (Late command) built = absurd built
+feed_counts inputs messages w (Packet port stamp packet) built = absurd built
+feed_counts inputs messages w (Ticks seconds) built = absurd built
+
+-- A stop, the start, and the room that is left
+
+pub stop_sound : (w : World) → IsSound w → IsSound (stop w)
+stop_sound w sound = record {
+  in_order = omega arith;
+  within = record { made = sound.within.made; links = sound.within.links; nodes = sound.within.nodes; hooks = sound.within.hooks; spool = sound.within.spool };
+  built = record { pending = tt; told = sound.built.told };
+}
+
+pub start_sound : (own : List ℕ) (stock : List Kind) → IsSound (start_of own [] stock)
+start_sound own stock = record {
+  in_order = omega arith;
+  within = record { made = omega arith; links = omega arith; nodes = omega arith; hooks = omega arith; spool = omega arith };
+  built = record { pending = tt; told = tt };
+}
+
+pub room : (w : World) → IsSound w → w.fed < 2 ^ 32 → w.applies ≤ most_applies → HasRoom w
+room w sound few_inputs few_applies =
+    let within = sound.within in
+    record {
+      made = omega (arith, within.made);
+      links = omega (arith, within.links);
+      nodes = omega (arith, within.nodes);
+      hooks = omega (arith, within.hooks);
+      spool = within.spool;
+    }

@@ -1,12 +1,13 @@
 -- The first of a kind among things that have kinds.
-use Rattle.std.proofs.Common.{◌≡◌, ℕ, suc, ◌+◌, ◌<◌, ◌||◌, Bool, true, false, List, [], ◌∷◌, length, map, remove, get_or, is_some, Option, Some, None, IfSome, IfNone, refl, ap, sym, subst, ◌∙◌, inl, inr, arith}
-use Rattle.std.specs.List.{position_from, list_any}
+use Rattle.std.proofs.Common.{◌≡◌, ℕ, suc, ◌+◌, ◌<◌, true, false, List, [], ◌∷◌, length, map, get_or, is_some, Option, Some, None, IfSome, IfNone, refl, ap, sym, subst, ◌∙◌, inl, inr, arith}
+use Rattle.std.specs.List.{position_from}
 use Rattle.std.proofs.lemmas.Bool.{cases_Bool}
 use Rattle.std.proofs.lemmas.Bool.Decides.{Decides-eqb}
 use Rattle.ng_base.specs.declared.kind.Kind.{Kind}
 use Rattle.ng_base.specs.declared.kind.Kind.TheVariants.{Hub, Hole, Echo, Tee, Split, One2many, Bridge, Vlan, Patch, Bpf, Ether, Socket}
 use Rattle.ng_base.specs.Kind.{kinds, kind_number, same_kind}
-use Rattle.ng_core.specs.Kinds.{has_kind, without_kind, IsFirstOf}
+use Rattle.ng_machine.specs.Stock.{has_kind}
+use Rattle.ng_core.specs.Make.{IsFirstOf}
 
 -- a kind is known by its number
 numbered : (kind : Kind) → get_or kinds (kind_number kind) Socket ≡ kind

@@ -1,12 +1,4 @@
-pub mod Kinds
-pub mod World
-pub mod Change
-pub mod Effect
-pub mod Feed
-pub mod Run
-pub mod Orderly
-pub mod Plain
 pub mod Numbers
-pub mod Packets
+pub mod Built
+pub mod Make
 pub mod Going
-pub mod Totals

@@ -1,8 +1,9 @@
 -- The numbers of a world, and how far they can come.
-use Rattle.std.specs.Prelude.{ℕ, ◌+◌, ◌*◌, ◌-◌, ◌^◌, ◌<◌, ◌≤◌, List, length, sum_by, Option, Some, None}
-use Rattle.ng_core.specs.declared.lost.Lost.{Lost}
-use Rattle.ng_core.specs.World.{World, Row}
-use Rattle.ng_core.specs.Change.{most_spool}
+use Rattle.std.specs.Prelude.{ℕ, ◌+◌, ◌*◌, ◌-◌, ◌^◌, ◌<◌, ◌≤◌, length, Option, Some, None}
+use Rattle.ng_machine.specs.declared.lost.Lost.{Lost}
+use Rattle.ng_machine.specs.World.{World, Row}
+use Rattle.ng_machine.specs.Change.{most_spool}
+use Rattle.ng_machine.specs.Totals.{hook_total}
 
 abbrev pub lost_total : Lost → ℕ
 lost_total lost = lost.no_peer + (lost.node_gone + (lost.full + lost.spool))
@@ -15,12 +16,13 @@ abbrev pub hooks_in : Option Row → ℕ
 hooks_in None = 0
 hooks_in (Some row) = length row.hooks
 
-abbrev pub hook_total : List (Option Row) → ℕ
-hook_total nodes = sum_by hooks_in nodes
+-- a run applies at most so many items, each of which makes at most two hooks
+abbrev pub most_applies : ℕ
+most_applies = 10000000
 
--- as much as one event makes at the most
+-- as much as one event makes at the most: a packet for each hook that there can be, and a little more
 abbrev pub most_made : ℕ
-most_made = 8193
+most_made = 20000003
 
 -- what fed inputs and applied items let the numbers come to
 pub record IsWithin (w : World) : Type 0 where
@@ -35,4 +37,5 @@ pub record HasRoom (w : World) : Type 0 where
   pub made : made w < 2 ^ 62
   pub links : w.next_link < 2 ^ 32 - 1
   pub nodes : length w.nodes < 2 ^ 32 - 1
+  pub hooks : hook_total w.nodes ≤ 2 * most_applies
   pub spool : w.spool ≤ most_spool

@@ -1,11 +1,13 @@
 // A node as the core keeps it.
 ghost use Rattle.std.specs.Prelude.{◌≡◌, true, false, length, is_some, IsSome, IfOk, OnOk, OnErr};
-ghost use Rattle.ng_node.specs.State.{kind_of, blank_of, takes_hook};
-ghost use Rattle.ng_node.specs.Case.{part_after, outcome_of, IsWritable};
+ghost use Rattle.ng_machine.specs.Case.{part_after, outcome_of};
+ghost use Rattle.ng_machine.specs.Rules.{takes_hook};
+ghost use Rattle.ng_machine.specs.State.{blank_of};
+ghost use Rattle.ng_node.specs.Write.{IsWritable};
 
-use crate::Hook;
-use ng_base::{Kind, Name, NoMemory};
-use ng_node::{Body, Node, Outcome};
+use ng_base::{Kind, LinkId, Name, NoMemory};
+use ng_machine::{Body, Hook, Outcome};
+use ng_node::Node;
 use std::alloc::Global;
 use std::marker::Model;
 
@@ -19,7 +21,7 @@ pub struct Entry<B: Node> {
 
 impl<B: Node> Model for Entry<B> {
     ghost use Rattle.std.specs.Prelude.{◌≡◌, map};
-    ghost use Rattle.ng_core.specs.World.{Row};
+    ghost use Rattle.ng_machine.specs.World.{Row};
 
     ghost Value = { Row };
 
@@ -29,7 +31,7 @@ impl<B: Node> Model for Entry<B> {
 }
 
 impl<B: Node> Entry<B> {
-    ghost use Rattle.ng_core.specs.World.{state_of, kind_at, hook_of, has_hook, with_hook, blank_row};
+    ghost use Rattle.ng_machine.specs.World.{state_of, kind_at, hook_of, has_hook, linked, with_hook, blank_row};
 
     /// A blank node, with a name or without.
     pub fn blank(alloc: Global, name: Option<Name>, node: B, _kind: Kind) -> Self
@@ -55,6 +57,16 @@ impl<B: Node> Entry<B> {
         ensures { result ≡ hook_of self.now name.now }
     {
         self.hooks.iter().copied().find(|hook| hook.name == *name)
+    }
+
+    /// The hook of that name, if there is one with that link.
+    pub fn linked(&self, name: &Name, link: LinkId) -> Option<Hook>
+        ensures { result ≡ linked self.now name.now link }
+    {
+        self.hooks
+            .iter()
+            .copied()
+            .find(|hook| hook.name == *name && hook.link.0 == link.0)
     }
 
     /// The number of its hooks.

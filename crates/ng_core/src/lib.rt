@@ -2,19 +2,15 @@
 #![tactic(auto)]
 
 mod entry;
-mod hook;
-mod input;
-mod lost;
 mod machine;
 mod nodes;
+mod orders;
+mod pending;
 mod run;
 mod stock;
 mod totals;
 
 pub use entry::Entry;
-pub use hook::{End, Hook};
-pub use input::Input;
-pub use lost::Lost;
 pub use machine::Core;
 pub use run::plain;
 pub use stock::Stock;

@@ -1,24 +1,33 @@
 // The state machine: each call changes the world as its definition says.
-ghost use Rattle.std.specs.Prelude.{◌≡◌, ◌+◌, ◌-◌, ◌*◌, ◌^◌, ◌<◌, ◌≤◌, ◌++◌, ◌∷◌, [], Option, All, true, false, map, length, is_some, is_none, IsSome, IfOk, IfSome, IfNone, OnOk, None, Some};
+ghost use Rattle.std.specs.Prelude.{◌≡◌, ◌+◌, ◌-◌, ◌*◌, ◌^◌, ◌<◌, ◌≤◌, ◌++◌, ◌∷◌, [], Option, List, ℕ, All, true, false, map, length, is_some, is_none, IsSome, IfOk, IfSome, IfNone, OnOk, None, Some, codes};
 ghost use Rattle.ng_base.specs.declared.ids.NodeId.{NodeId};
 ghost use Rattle.ng_base.specs.declared.ids.Stamp.{Stamp};
-ghost use Rattle.ng_node.specs.State.{kind_of, blank_of, takes_hook};
-ghost use Rattle.ng_node.specs.Case.{outcome_of, IsWritable};
-ghost use Rattle.ng_core.specs.Kinds.{has_kind};
-ghost use Rattle.ng_core.specs.World.{Row, row_in, row_at, hook_at, has_hook, state_of, start_of, own_node};
-ghost use Rattle.ng_core.specs.Change.{accept, accept_at, frames, has_frame, lose_no_peer, lose_node_gone, lose_full, lose_spool, send_if, send_joined, send_by, post, tell, read_if, spooled, most_spool, leave, note, changed, arriving};
-ghost use Rattle.ng_core.specs.Effect.{exits, posts, counts_refused, serve, is_fixed, make_refusal, IsMakeable, makes, make_unless, effect, effect_at, effected, has_link, is_hook_gone, drop_hook_gone, applied_if, apply};
-ghost use Rattle.ng_core.specs.Feed.{write_if, write_by, feed_what, begin_command, feed_input};
-ghost use Rattle.ng_core.specs.Run.{stop, dropped_at_budget};
-ghost use Rattle.ng_core.specs.Numbers.{made, hook_total, HasRoom};
-ghost use Rattle.ng_core.specs.Totals.{totals_of};
-ghost use Rattle.ng_core.specs.Going.{first_id};
+ghost use Rattle.ng_message.specs.Fields.{name_field};
+ghost use Rattle.ng_machine.specs.Address.{read_address};
+ghost use Rattle.ng_machine.specs.Change.{accept, accept_at, frames, lose_no_peer, lose_node_gone, lose_full, lose_spool, send_joined, send_by, post, tell, spooled, most_spool, leave, changed, arriving, dropped_as};
+ghost use Rattle.ng_machine.specs.Effect.{exits, posts, counts_unless, is_fine, effected, is_hook_gone, lacks_link, drop_hook_gone, finish, apply};
+ghost use Rattle.ng_machine.specs.Feed.{Given, here, refuse_line, write_by, feed_command, feed_next, order_at};
+ghost use Rattle.ng_machine.specs.Generic.{mkpeer_refusal, makes, mkpeer};
+ghost use Rattle.ng_machine.specs.Retire.{refuse};
+ghost use Rattle.ng_machine.specs.Rules.{is_fixed};
+ghost use Rattle.ng_machine.specs.Run.{stop};
+ghost use Rattle.ng_machine.specs.State.{kind_of, blank_of};
+ghost use Rattle.ng_machine.specs.Stock.{has_kind};
+ghost use Rattle.ng_machine.specs.Totals.{totals_of, hook_total};
+ghost use Rattle.ng_machine.specs.World.{World, Row, row_at, hook_at, kind_at, linked, start_of, own_node};
+ghost use Rattle.ng_core.specs.Built.{BodyBuilt, ComesBy, IsMakeOrder, WhatBuilt, InputBuilt};
+ghost use Rattle.ng_core.specs.Going.{first_id, Messages, given, IsSound};
+ghost use Rattle.ng_core.specs.Make.{IsMakeable};
+ghost use Rattle.ng_core.specs.Numbers.{made, HasRoom};
 
 use crate::nodes::{entry_in, hang, hook_in, kind_in, write_in};
-use crate::{Entry, Hook, Input, Lost, Stock, totals};
-use ng_base::{Cause, Errno, ItemId, Kind, LinkId, Name, NoMemory, NodeId, Packet, Stamp};
-use ng_node::{Body, Door, Exit, Item, Node, Outcome, Told, Totals};
-use ngctl_words::What;
+use crate::orders::{make_order, read_make_order};
+use crate::pending::Pending;
+use crate::{Entry, Stock, totals};
+use ng_base::{Bytes, Cause, Errno, ItemId, Kind, LinkId, Name, NoMemory, NodeId, Packet, Stamp};
+use ng_machine::{Body, Command, Door, Exit, Hook, Input, Item, Lost, Outcome, Told, Totals, What};
+use ng_message::Msg;
+use ng_node::Node;
 use std::alloc::Global;
 use std::marker::Model;
 use std::mem;
@@ -32,13 +41,16 @@ const MOST_FRAMES: usize = 4096;
 // As many bytes may leave, with 16 for each packet.
 const MOST_SPOOL: u64 = 536_870_912;
 
-/// The state of the machine. A contract sees it as the world.
+/// The state of the machine. A contract sees it as the world, which has no ports yet.
+///
+/// Built so far are the commands `mkpeer .` and `write`, and the items that come of them.
 #[derive(Drop)]
 pub struct Core<B: Node> {
     nodes: Vec<Option<Entry<B>>>,
     stock: Stock<B>,
-    pending: Vec<Item>,
+    pending: Pending,
     told: Vec<Told>,
+    done: Vec<ItemId>,
     dropped: Vec<(ItemId, Cause)>,
     lost: Lost,
     refused: u64,
@@ -52,15 +64,18 @@ pub struct Core<B: Node> {
 }
 
 impl<B: Node> Model for Core<B> {
-    ghost use Rattle.ng_core.specs.World.{World};
+    ghost use Rattle.std.specs.Prelude.{[]};
+    ghost use Rattle.ng_machine.specs.World.{World};
 
     ghost Value = { World };
 
     ghost view = { λ c. record {
       nodes = c.nodes.items;
       stock = c.stock;
-      pending = c.pending.items;
+      pending = c.pending;
       told = c.told.items;
+      ports = [];
+      done = c.done.items;
       dropped = c.dropped.items;
       lost = c.lost;
       refused = c.refused;
@@ -81,14 +96,14 @@ fn is_fixed(kind: Kind) -> bool
 }
 
 // Why a node can't be made at the end of a new hook of this one, if it can't.
-fn make_refusal<B: Node>(
+fn mkpeer_refusal<B: Node>(
     stock: &Stock<B>,
     entry: &Entry<B>,
     kind: Kind,
     ours: &Name,
     theirs: &Name,
 ) -> Option<Errno>
-    ensures { result ≡ make_refusal stock.now entry.now kind ours.now theirs.now }
+    ensures { (w : World) → w.stock ≡ stock.now → result ≡ mkpeer_refusal w entry.now kind ours.now theirs.now }
 {
     if is_fixed(kind) {
         return Some(Errno::PERM);
@@ -105,12 +120,13 @@ fn make_refusal<B: Node>(
     None
 }
 
-fn has_link(link: Option<LinkId>, hook: Option<Hook>) -> bool
-    ensures { result ≡ has_link link hook }
+// Whether the node lacks a hook of that name with that link.
+fn lacks_link<B: Node>(entry: &Entry<B>, hook: &Name, link: Option<LinkId>) -> bool
+    ensures { result ≡ lacks_link entry.now hook.now link }
 {
-    match (link, hook) {
-        (Some(link), Some(hook)) => hook.link.0 == link.0,
-        (Some(_), None) | (None, _) => false,
+    match link {
+        Some(link) => entry.linked(hook, link).is_none(),
+        None => true,
     }
 }
 
@@ -125,24 +141,25 @@ fn arriving(hook: Hook, packet: Packet) -> Body
 }
 
 // Notes that each item is dropped at the limit of applied items, in order.
-fn drop_at_budget(dropped: &mut Vec<(ItemId, Cause)>, pending: Vec<Item>) -> Result<(), NoMemory>
-    ensures { OnOk result (dropped.new.items ≡ dropped.old.items ++ dropped_at_budget pending.items) }
+fn drop_at_budget(dropped: &mut Vec<(ItemId, Cause)>, pending: Pending) -> Result<(), NoMemory>
+    ensures { OnOk result (dropped.new.items ≡ dropped.old.items ++ dropped_as Cause.Budget pending) }
 {
-    for item in pending {
+    for item in pending.into_items() {
         dropped.push((item.id, Cause::Budget))?;
     }
     Ok(())
 }
 
 impl<B: Node> Core<B> {
-    /// The world before any event: node 1 is a socket of the own name, out of the blank nodes that are handed in.
+    /// The world before any event: node 1 is a socket of the own name, out of the blank nodes that are handed in. It has
+    /// no ports.
     ///
     /// # Errors
     /// `NoMemory` for want of memory alone.
     pub fn new(alloc: Global, own: Name, stock: Vec<B>) -> Result<Self, NoMemory>
         requires blank { All (λ b. B.state b ≡ blank_of (kind_of (B.state b))) stock.items }
         requires socket { has_kind (map (λ b. kind_of (B.state b)) stock.items) Kind.Socket ≡ true }
-        ensures { IfOk result (λ core. core ≡ start_of own (map (λ b. kind_of (B.state b)) stock.items)) }
+        ensures { IfOk result (λ core. core ≡ start_of own [] (map (λ b. kind_of (B.state b)) stock.items)) }
     {
         let mut stock = Stock::new(stock);
         let Some(socket) = stock.take(Kind::Socket) else {
@@ -154,8 +171,9 @@ impl<B: Node> Core<B> {
         Ok(Core {
             nodes,
             stock,
-            pending: Vec::new(alloc),
+            pending: Pending::new(alloc),
             told: Vec::new(alloc),
+            done: Vec::new(alloc),
             dropped: Vec::new(alloc),
             lost: Lost {
                 no_peer: 0,
@@ -199,10 +217,7 @@ impl<B: Node> Core<B> {
     pub fn first_id(&self) -> Option<ItemId>
         ensures { result ≡ first_id self.now }
     {
-        match self.pending.as_slice() {
-            [] => None,
-            [item, ..] => Some(item.id),
-        }
+        self.pending.first_id()
     }
 
     /// The counts for the summary.
@@ -210,12 +225,11 @@ impl<B: Node> Core<B> {
         requires { hook_total self.now.nodes < 2 ^ 63 }
         ensures { result ≡ totals_of self.now }
     {
-        let hook_gone = totals::hook_gone(&self.dropped);
         Totals {
-            applied: self.applies.saturating_sub(hook_gone),
+            applied: self.done.len() as u64,
             refused: self.refused,
             node_gone: totals::node_gone(&self.dropped),
-            hook_gone,
+            hook_gone: totals::hook_gone(&self.dropped),
             budget: totals::budget(&self.dropped),
             no_peer: self.lost.no_peer,
             peer_gone: self.lost.node_gone,
@@ -229,10 +243,7 @@ impl<B: Node> Core<B> {
     fn frames(&self) -> usize
         ensures { result ≡ frames self.now }
     {
-        self.pending
-            .iter()
-            .filter(|item| item.body.is_frame())
-            .count()
+        self.pending.frames()
     }
 
     fn accept(
@@ -257,22 +268,6 @@ impl<B: Node> Core<B> {
         })?;
         self.next_item += 1;
         Ok(())
-    }
-
-    fn accept_at(
-        &mut self,
-        to: NodeId,
-        body: Body,
-        tag: Option<u32>,
-        stamp: Stamp,
-    ) -> Result<(), NoMemory>
-        requires { made self.old < 2 ^ 63 }
-        ensures { OnOk result (self.new ≡ accept_at self.old to (row_at self.old to) body tag stamp) }
-    {
-        match kind_in(&self.nodes, to) {
-            Some(kind) => self.accept(to, kind, body, tag, stamp),
-            None => Ok(()),
-        }
     }
 
     fn lose_no_peer(&mut self)
@@ -348,35 +343,35 @@ impl<B: Node> Core<B> {
         Ok(())
     }
 
-    fn leave(&mut self, exit: Exit, hook: Name, packet: Packet) -> Result<(), NoMemory>
+    // A packet leaves. There are no ports yet, so that nothing is kept of what goes to a wire or to a host.
+    fn leave(
+        &mut self,
+        _at: NodeId,
+        _stamp: Stamp,
+        exit: Exit,
+        hook: Name,
+        packet: Packet,
+    ) -> Result<(), NoMemory>
         requires room { made self.old < 2 ^ 63 }
         requires spool { self.old.spool ≤ most_spool }
-        ensures { OnOk result (self.new ≡ leave self.old exit hook packet) }
-    {
-        match exit {
-            Exit::Wire | Exit::Host => Ok(()),
-            Exit::Reader => self.hand_over(hook, packet),
-        }
-    }
-
-    fn hand_over(&mut self, hook: Name, packet: Packet) -> Result<(), NoMemory>
-        requires room { made self.old < 2 ^ 63 }
-        requires spool { self.old.spool ≤ most_spool }
-        ensures { OnOk result (self.new ≡ leave self.old Exit.Reader hook packet) }
+        ensures { OnOk result (self.new ≡ leave self.old _at _stamp exit hook packet) }
     {
         let spooled = self.spool + (16 + packet.bytes().len() as u64);
-        if spooled > MOST_SPOOL {
-            self.lose_spool();
-            return Ok(());
+        match exit {
+            Exit::Host => {}
+            Exit::Wire | Exit::Reader if spooled > MOST_SPOOL => self.lose_spool(),
+            Exit::Wire => self.spool = spooled,
+            Exit::Reader => {
+                self.told.push(Told::Frame { hook, packet })?;
+                self.spool = spooled;
+            }
         }
-        self.told.push(Told::Frame { hook, packet })?;
-        self.spool = spooled;
         Ok(())
     }
 
     fn count_refused(&mut self, errno: Errno)
         requires { made self.old < 2 ^ 63 }
-        ensures world { (at : NodeId) (stamp : Stamp) → self.new ≡ changed at stamp self.old (counts_refused errno) }
+        ensures world { (at : NodeId) (stamp : Stamp) → self.new ≡ changed at stamp self.old (counts_unless (is_fine errno)) }
         ensures room { made self.new ≤ made self.old + 1 }
     {
         if errno.0 != 0 {
@@ -384,40 +379,41 @@ impl<B: Node> Core<B> {
         }
     }
 
-    fn make(
-        &mut self,
-        alloc: Global,
-        at: NodeId,
-        kind: Kind,
-        ours: Name,
-        theirs: Name,
-    ) -> Result<(), NoMemory>
-        requires may { IsMakeable self.old.nodes self.old.stock at kind ours theirs }
-        requires room { HasRoom self.old }
-        ensures { (stamp : Stamp) (row : Row) → row_at self.old at ≡ Some row → OnOk result (self.new ≡ changed at stamp self.old (makes at row kind ours theirs (length self.old.nodes) self.old.next_link)) }
+    // Tells a command that it is refused, without words.
+    fn refuse_line(&mut self, alloc: Global, command: u32, errno: Errno) -> Result<(), NoMemory>
+        ensures { OnOk result (self.new ≡ refuse_line self.old command errno []) }
     {
-        hang(
-            alloc,
-            &mut self.nodes,
-            &mut self.stock,
-            at,
-            kind,
-            ours,
-            theirs,
-            self.next_link,
-        )?;
-        self.next_link += 1;
-        Ok(())
+        self.tell(Told::Refused {
+            command,
+            errno,
+            why: Bytes(Vec::new(alloc)),
+        })
     }
 
-    fn leave_all(&mut self, hook: Name, leaves: Vec<(Exit, Packet)>) -> Result<(), NoMemory>
+    // Tells an error for a tag; where no command waits it is told to nobody.
+    fn refuse(&mut self, alloc: Global, tag: Option<u32>, errno: Errno) -> Result<(), NoMemory>
+        ensures { (at : NodeId) (stamp : Stamp) → OnOk result (self.new ≡ changed at stamp self.old (refuse tag errno)) }
+    {
+        match tag {
+            Some(command) => self.refuse_line(alloc, command, errno),
+            None => Ok(()),
+        }
+    }
+
+    fn leave_all(
+        &mut self,
+        at: NodeId,
+        stamp: Stamp,
+        hook: Name,
+        leaves: Vec<(Exit, Packet)>,
+    ) -> Result<(), NoMemory>
         requires room { made self.old + length leaves.items < 2 ^ 63 }
         requires spool { self.old.spool ≤ most_spool }
-        ensures world { (at : NodeId) (stamp : Stamp) → OnOk result (self.new ≡ changed at stamp self.old (exits hook leaves.items)) }
+        ensures world { OnOk result (self.new ≡ changed at stamp self.old (exits hook leaves.items)) }
         ensures room { OnOk result (made self.new ≤ made self.old + length leaves.items) }
     {
         for (exit, packet) in leaves {
-            self.leave(exit, hook, packet)?;
+            self.leave(at, stamp, exit, hook, packet)?;
         }
         Ok(())
     }
@@ -448,7 +444,7 @@ impl<B: Node> Core<B> {
     ) -> Result<(), NoMemory>
         requires room { made self.old + (length outcome.leaves + (1 + length outcome.sends)) < 2 ^ 63 }
         requires spool { self.old.spool ≤ most_spool }
-        ensures { OnOk result (self.new ≡ changed at stamp self.old (exits hook outcome.leaves ++ (counts_refused outcome.errno ++ posts outcome.sends))) }
+        ensures { OnOk result (self.new ≡ changed at stamp self.old (exits hook outcome.leaves ++ (counts_unless (is_fine outcome.errno) ++ posts outcome.sends))) }
     {
         let Outcome {
             sends,
@@ -457,52 +453,46 @@ impl<B: Node> Core<B> {
             counts: _,
             errno,
         } = outcome;
-        self.leave_all(hook, leaves.into_vec())?;
+        self.leave_all(at, stamp, hook, leaves.into_vec())?;
         self.count_refused(errno);
         self.post_all(at, stamp, sends.into_vec())
     }
 
     // A packet that comes by a hook of its node.
-    fn serve(
-        &mut self,
-        alloc: Global,
-        at: NodeId,
-        stamp: Stamp,
-        hook: Name,
-        link: Option<LinkId>,
-        packet: Packet,
-    ) -> Result<(), NoMemory>
-        requires there { IsSome (row_at self.old at) }
-        requires here { is_hook_gone (row_at self.old at) (Body.Frame (Door.Hook hook) link packet) ≡ false }
+    fn serve(&mut self, alloc: Global, item: &Item, hook: Name) -> Result<(), NoMemory>
+        requires there { IsSome (row_at self.old item.now.to) }
+        requires comes { ComesBy hook item.now.body }
+        requires here { is_hook_gone (row_at self.old item.now.to) item.now.body ≡ false }
         requires room { HasRoom self.old }
-        ensures { OnOk result (self.new ≡ effected self.old at stamp (Body.Frame (Door.Hook hook) link packet)) }
+        ensures { OnOk result (self.new ≡ effected self.old item.now) }
     {
-        let body = Body::Frame {
-            door: Door::Hook(hook),
-            link,
-            packet,
-        };
-        let outcome = write_in(alloc, &mut self.nodes, at, &body)?;
-        self.spread(at, stamp, hook, outcome)
+        let outcome = write_in(alloc, &mut self.nodes, item.to, &item.body)?;
+        self.spread(item.to, item.stamp, hook, outcome)
     }
 
-    fn is_hook_gone(&self, at: NodeId, body: &Body) -> bool
-        ensures { result ≡ is_hook_gone (row_at self.now at) body.now }
+    fn is_hook_gone(&self, item: &Item) -> bool
+        ensures { result ≡ is_hook_gone (row_at self.now item.now.to) item.now.body }
     {
-        let Some(entry) = entry_in(&self.nodes, at) else {
+        let Some(entry) = entry_in(&self.nodes, item.to) else {
             return false;
         };
-        match body {
+        match &item.body {
             Body::Frame {
                 door: Door::Hook(hook),
                 link,
                 ..
-            } => !has_link(*link, entry.hook(hook)),
+            } => lacks_link(entry, hook, *link),
             Body::Frame {
                 door: Door::Wire,
                 ..
             }
-            | Body::Make { .. } => false,
+            | Body::Msg(_)
+            | Body::Join2 { .. }
+            | Body::Join3 { .. }
+            | Body::Undo { .. }
+            | Body::Leave { .. }
+            | Body::Rebind { .. }
+            | Body::Tick(_) => false,
         }
     }
 
@@ -513,53 +503,110 @@ impl<B: Node> Core<B> {
         Ok(())
     }
 
-    fn make_unless(
+    fn make(
         &mut self,
         alloc: Global,
-        at: NodeId,
+        item: &Item,
         kind: Kind,
         ours: Name,
         theirs: Name,
     ) -> Result<(), NoMemory>
-        requires { HasRoom self.old }
-        ensures { (stamp : Stamp) → OnOk result (self.new ≡ effected self.old at stamp (Body.Make kind ours theirs)) }
+        requires may { IsMakeable self.old.nodes self.old.stock item.now.to kind ours theirs }
+        requires room { HasRoom self.old }
+        ensures { (row : Row) → row_at self.old item.now.to ≡ Some row → OnOk result (self.new ≡ changed item.now.to item.now.stamp self.old (makes self.old item.now row kind ours theirs)) }
     {
-        let Some(entry) = entry_in(&self.nodes, at) else {
-            return Ok(());
-        };
-        if make_refusal(&self.stock, entry, kind, &ours, &theirs).is_some() {
-            return Ok(());
-        }
-        self.make(alloc, at, kind, ours, theirs)
+        hang(
+            alloc,
+            &mut self.nodes,
+            &mut self.stock,
+            item.to,
+            kind,
+            ours,
+            theirs,
+            self.next_link,
+        )?;
+        self.next_link += 1;
+        Ok(())
     }
 
-    fn apply_body(
+    fn mkpeer(
         &mut self,
         alloc: Global,
-        at: NodeId,
-        stamp: Stamp,
-        body: Body,
+        item: &Item,
+        kind: Kind,
+        ours: Name,
+        theirs: Name,
     ) -> Result<(), NoMemory>
-        requires here { is_hook_gone (row_at self.old at) body ≡ false }
+        requires there { IsSome (row_at self.old item.now.to) }
         requires room { HasRoom self.old }
-        ensures { OnOk result (self.new ≡ effected self.old at stamp body) }
+        ensures { (row : Row) → row_at self.old item.now.to ≡ Some row → OnOk result (self.new ≡ changed item.now.to item.now.stamp self.old (mkpeer self.old item.now row (Some kind) ours theirs)) }
     {
-        match body {
-            Body::Frame { door, link, packet } => {
-                let Door::Hook(hook) = door else {
-                    return Ok(());
-                };
-                if entry_in(&self.nodes, at).is_none() {
-                    return Ok(());
-                }
-                self.serve(alloc, at, stamp, hook, link, packet)
-            }
-            Body::Make {
-                kind,
-                ourhook,
-                peerhook,
-            } => self.make_unless(alloc, at, kind, ourhook, peerhook),
+        let Some(entry) = entry_in(&self.nodes, item.to) else {
+            unreachable!()
+        };
+        match mkpeer_refusal(&self.stock, entry, kind, &ours, &theirs) {
+            Some(errno) => self.refuse(alloc, item.tag, errno),
+            None => self.make(alloc, item, kind, ours, theirs),
         }
+    }
+
+    // The generic order to make a node.
+    fn order(&mut self, alloc: Global, item: &Item, msg: &Msg) -> Result<(), NoMemory>
+        requires there { IsSome (row_at self.old item.now.to) }
+        requires brings { item.now.body ≡ Body.Msg msg.now }
+        requires order { IsMakeOrder msg.now }
+        requires room { HasRoom self.old }
+        ensures { OnOk result (self.new ≡ effected self.old item.now) }
+    {
+        let Some(order) = read_make_order(msg.args.0.as_slice()) else {
+            return self.refuse(alloc, item.tag, Errno::INVAL);
+        };
+        match Kind::read(&order.kind_name) {
+            Some(kind) => self.mkpeer(alloc, item, kind, order.ourhook, order.peerhook),
+            None => self.refuse(alloc, item.tag, Errno::NXIO),
+        }
+    }
+
+    // What an item does at its node.
+    #[tactic(auto, using(crate::proofs::Effects::none_effected))]
+    fn carry_out(&mut self, alloc: Global, item: &Item) -> Result<(), NoMemory>
+        requires built { BodyBuilt item.now.body }
+        requires here { is_hook_gone (row_at self.old item.now.to) item.now.body ≡ false }
+        requires room { HasRoom self.old }
+        ensures { OnOk result (self.new ≡ effected self.old item.now) }
+    {
+        if entry_in(&self.nodes, item.to).is_none() {
+            return Ok(());
+        }
+        match &item.body {
+            Body::Frame {
+                door: Door::Hook(hook),
+                ..
+            } => self.serve(alloc, item, *hook),
+            Body::Msg(msg) => self.order(alloc, item, msg),
+            Body::Frame {
+                door: Door::Wire,
+                ..
+            }
+            | Body::Join2 { .. }
+            | Body::Join3 { .. }
+            | Body::Undo { .. }
+            | Body::Leave { .. }
+            | Body::Rebind { .. }
+            | Body::Tick(_) => unreachable!(),
+        }
+    }
+
+    // Takes the first pending item out.
+    fn take_first(&mut self) -> Item
+        requires { 0 < length self.old.pending }
+        ensures first { self.old.pending ≡ result ∷ self.new.pending }
+        ensures rest { self.new ≡ record self.old { pending = self.new.pending } }
+    {
+        let Some(item) = self.pending.take_first() else {
+            unreachable!()
+        };
+        item
     }
 
     /// Applies the first pending item.
@@ -570,68 +617,100 @@ impl<B: Node> Core<B> {
         requires pending { 0 < length self.old.pending }
         requires room { HasRoom self.old }
         requires counted { self.old.applies < 2 ^ 62 }
+        requires sound { IsSound self.old }
         ensures { IfSome (first_id self.old) (λ id. OnOk result (self.new ≡ apply self.old id)) }
     {
-        let item = self.pending.remove(0);
-        let Item {
-            id,
-            to,
-            body,
-            writer: _,
-            tag: _,
-            stamp,
-        } = item;
+        let item = self.take_first();
         self.applies += 1;
-        if self.is_hook_gone(to, &body) {
-            return self.drop_hook_gone(id);
+        if self.is_hook_gone(&item) {
+            return self.drop_hook_gone(item.id);
         }
-        self.apply_body(alloc, to, stamp, body)
+        self.done.push(item.id)?;
+        self.carry_out(alloc, &item)
     }
 
-    fn write(&mut self, hook: &Name, packet: Packet) -> Result<(), NoMemory>
+    // The order to make a node at the own node, for the command of that number.
+    fn order_here(
+        &mut self,
+        alloc: Global,
+        command: u32,
+        kind_name: &Name,
+        hook: &Name,
+        peerhook: &Name,
+    ) -> Result<(), NoMemory>
         requires { made self.old < 2 ^ 63 }
-        ensures { OnOk result (self.new ≡ write_by self.old (hook_at (row_at self.old own_node) hook.now) packet) }
+        ensures { OnOk result (self.new ≡ order_at self.old command (read_address here) 2 (codes "mkpeer") (name_field kind_name.now ++ name_field hook.now ++ name_field peerhook.now)) }
+    {
+        let Some(kind) = kind_in(&self.nodes, OWN) else {
+            return self.refuse_line(alloc, command, Errno::NOENT);
+        };
+        let order = make_order(alloc, command, kind_name, hook, peerhook)?;
+        let clock = self.clock;
+        self.accept(OWN, kind, Body::Msg(order), Some(command), clock)
+    }
+
+    // A packet out of a hook of the own node.
+    fn write(
+        &mut self,
+        alloc: Global,
+        command: u32,
+        hook: &Name,
+        bytes: &[u8],
+    ) -> Result<(), NoMemory>
+        requires { made self.old < 2 ^ 63 }
+        ensures { OnOk result (self.new ≡ write_by self.old command (hook_at (row_at self.old own_node) hook.now) bytes.now) }
     {
         let Some(hook) = hook_in(&self.nodes, OWN, hook) else {
-            return Ok(());
+            return self.refuse_line(alloc, command, Errno::NOTCONN);
         };
         if !hook.joined {
-            return Ok(());
+            return self.refuse_line(alloc, command, Errno::NOTCONN);
         }
+        let Some(kind) = kind_in(&self.nodes, hook.peer.node) else {
+            return self.refuse_line(alloc, command, Errno::NOTCONN);
+        };
+        let packet = Packet::new(alloc, bytes)?;
         let clock = self.clock;
-        self.accept_at(hook.peer.node, arriving(hook, packet), None, clock)
+        self.accept(hook.peer.node, kind, arriving(hook, packet), None, clock)
     }
 
-    /// Feeds an input.
-    ///
-    /// # Errors
-    /// `NoMemory` for want of memory alone; nothing is promised of the world then.
-    pub fn feed(&mut self, input: &Input) -> Result<(), NoMemory>
-        requires room { HasRoom self.old }
-        requires counted { self.old.fed < 2 ^ 62 }
-        ensures { OnOk result (self.new ≡ feed_input self.old input.now) }
+    fn feed_command(&mut self, alloc: Global, command: &Command) -> Result<(), NoMemory>
+        requires room { made self.old < 2 ^ 63 }
+        requires built { WhatBuilt command.now.what }
+        ensures { (g : Given) → OnOk result (self.new ≡ feed_command g self.old command.now) }
     {
-        let Input::Now(command) = input;
-        self.fed += 1;
         self.command = command.number;
         self.tell(Told::Line {
             command: command.number,
         })?;
         match &command.what {
             What::Mkpeer {
-                kind,
+                path: _,
+                kind_name,
                 hook,
                 peerhook,
-            } => {
-                let clock = self.clock;
-                let make = Body::Make {
-                    kind: *kind,
-                    ourhook: *hook,
-                    peerhook: *peerhook,
-                };
-                self.accept_at(OWN, make, Some(command.number), clock)
+            } => self.order_here(alloc, command.number, kind_name, hook, peerhook),
+            What::Write { hook, bytes } => {
+                self.write(alloc, command.number, hook, bytes.0.as_slice())
             }
-            What::Write { hook, packet } => self.write(hook, packet.again()?),
+            _ => unreachable!(),
+        }
+    }
+
+    /// Feeds an input of those that are built: a command `mkpeer .`, or a `write` of at most 262,144 bytes.
+    ///
+    /// # Errors
+    /// `NoMemory` for want of memory alone; nothing is promised of the world then.
+    pub fn feed(&mut self, alloc: Global, input: &Input) -> Result<(), NoMemory>
+        requires room { HasRoom self.old }
+        requires counted { self.old.fed < 2 ^ 62 }
+        requires built { InputBuilt input.now }
+        ensures { (inputs : List Input) (messages : Messages) → OnOk result (self.new ≡ feed_next (given inputs messages) self.old (Some input.now)) }
+    {
+        self.fed += 1;
+        match input {
+            Input::Command(command) => self.feed_command(alloc, command),
+            Input::Late(_) | Input::Packet { .. } | Input::Tick(_) => unreachable!(),
         }
     }
 
@@ -642,7 +721,7 @@ impl<B: Node> Core<B> {
     pub fn stop(&mut self, alloc: Global) -> Result<(), NoMemory>
         ensures { OnOk result (self.new ≡ stop self.old) }
     {
-        let pending = mem::replace(&mut self.pending, Vec::new(alloc));
+        let pending = mem::replace(&mut self.pending, Pending::new(alloc));
         drop_at_budget(&mut self.dropped, pending)
     }
 }

@@ -1,15 +1,17 @@
 // The nodes by their numbers.
 ghost use Rattle.std.specs.Prelude.{◌≡◌, ◌<◌, ◌-◌, ◌^◌, ◌++◌, ◌∷◌, [], true, false, length, slice_set, IsSome, IfOk, OnOk, Some, None};
 ghost use Rattle.std.specs.Option.{option_map, option_copied};
-ghost use Rattle.ng_node.specs.State.{takes_hook};
-ghost use Rattle.ng_node.specs.Case.{part_after, outcome_of, IsWritable};
-ghost use Rattle.ng_core.specs.Kinds.{has_kind, without_kind};
-ghost use Rattle.ng_core.specs.Effect.{joined_hook, IsMakeable};
-ghost use Rattle.ng_core.specs.World.{Row, blank_row, row_in, hook_at, hook_of, has_hook, kind_at, state_of, with_hook};
+ghost use Rattle.ng_machine.specs.Case.{part_after, outcome_of};
+ghost use Rattle.ng_machine.specs.Rules.{takes_hook};
+ghost use Rattle.ng_machine.specs.Stock.{has_kind, without_kind};
+ghost use Rattle.ng_machine.specs.World.{Row, blank_row, row_in, hook_at, has_hook, kind_at, state_of, with_hook, new_hook, link_id, node_id};
+ghost use Rattle.ng_node.specs.Write.{IsWritable};
+ghost use Rattle.ng_core.specs.Make.{IsMakeable};
 
-use crate::{End, Entry, Hook, Stock};
+use crate::{Entry, Stock};
 use ng_base::{Kind, LinkId, Name, NoMemory, NodeId};
-use ng_node::{Body, Node, Outcome};
+use ng_machine::{Body, End, Hook, Outcome};
+use ng_node::Node;
 use std::alloc::Global;
 
 /// The node of that number, if there is one.
@@ -78,7 +80,7 @@ pub fn write_in<B: Node>(
 }
 
 fn joined_hook(name: Name, link: LinkId, node: NodeId, peer: Name) -> Hook
-    ensures { result ≡ joined_hook name link.0 node.0 peer }
+    ensures { result ≡ new_hook name link node peer true }
 {
     Hook {
         name,
@@ -124,7 +126,7 @@ pub fn hang<B: Node>(
 ) -> Result<(), NoMemory>
     requires may { IsMakeable nodes.old.items stock.old at kind ours theirs }
     requires room { length nodes.old.items < 2 ^ 32 - 1 }
-    ensures nodes { (row : Row) → row_in nodes.old.items at ≡ Some row → OnOk result (nodes.new.items ≡ slice_set nodes.old.items at.0 (Some (with_hook row (joined_hook ours link (length nodes.old.items) theirs))) ++ Some (with_hook (blank_row None kind) (joined_hook theirs link at.0 ours)) ∷ []) }
+    ensures nodes { (row : Row) → row_in nodes.old.items at ≡ Some row → OnOk result (nodes.new.items ≡ slice_set nodes.old.items at.0 (Some (with_hook row (new_hook ours (link_id link) (node_id (length nodes.old.items)) theirs true))) ++ Some (with_hook (blank_row None kind) (new_hook theirs (link_id link) at ours true)) ∷ []) }
     ensures stock { OnOk result (stock.new ≡ without_kind stock.old kind) }
 {
     let node = NodeId(nodes.len() as u32);

@@ -2,8 +2,10 @@
 ghost use Rattle.std.specs.Prelude.{◌≡◌, All, map, length, true, false, IfSome, IfNone, OnSome, Ok, Err};
 ghost use Rattle.std.specs.List.{position_from};
 ghost use Rattle.ng_base.specs.Kind.{same_kind};
-ghost use Rattle.ng_node.specs.State.{kind_of, blank_of, takes_hook};
-ghost use Rattle.ng_core.specs.Kinds.{has_kind, without_kind, IsFirstOf};
+ghost use Rattle.ng_machine.specs.Rules.{takes_hook};
+ghost use Rattle.ng_machine.specs.State.{kind_of, blank_of};
+ghost use Rattle.ng_machine.specs.Stock.{has_kind, without_kind};
+ghost use Rattle.ng_core.specs.Make.{IsFirstOf};
 
 use ng_base::{Kind, Name};
 use ng_node::Node;
@@ -18,7 +20,7 @@ pub struct Stock<B: Node> {
 impl<B: Node> Model for Stock<B> {
     ghost use Rattle.std.specs.Prelude.{◌≡◌, List, All, map};
     ghost use Rattle.ng_base.specs.declared.kind.Kind.{Kind};
-    ghost use Rattle.ng_node.specs.State.{kind_of, blank_of};
+    ghost use Rattle.ng_machine.specs.State.{kind_of, blank_of};
 
     ghost Value = { List Kind };
 

@@ -1,7 +1,9 @@
 // The counts of a world.
-ghost use Rattle.std.specs.Prelude.{◌≡◌, ◌^◌, ◌<◌, ◌-◌, count_by, is_some};
-ghost use Rattle.ng_core.specs.Numbers.{hooks_in, hook_total};
-ghost use Rattle.ng_core.specs.Totals.{is_node_gone, is_hook_gone, is_budget, dropped_by};
+ghost use Rattle.std.specs.Prelude.{◌≡◌, ◌^◌, ◌<◌, Option, count_by, is_some};
+ghost use Rattle.ng_machine.specs.Totals.{is_node_gone, is_hook_gone, is_budget, dropped_by, hook_total};
+ghost use Rattle.ng_machine.specs.Words.{times};
+ghost use Rattle.ng_machine.specs.World.{Row};
+ghost use Rattle.ng_core.specs.Numbers.{hooks_in};
 
 use crate::Entry;
 use ng_base::{Cause, ItemId};
@@ -37,11 +39,18 @@ pub fn budget(dropped: &[(ItemId, Cause)]) -> u64
         .count() as u64
 }
 
-/// How many nodes are there.
-pub fn nodes<B: Node>(nodes: &[Option<Entry<B>>]) -> u64
+fn count_nodes<B: Node>(nodes: &[Option<Entry<B>>]) -> u64
     ensures { result ≡ count_by is_some nodes.now }
 {
     nodes.iter().filter(|node| node.is_some()).count() as u64
+}
+
+/// How many nodes are there.
+#[tactic(auto, using(crate::proofs::Counts::counted))]
+pub fn nodes<B: Node>(nodes: &[Option<Entry<B>>]) -> u64
+    ensures { result ≡ times (λ (row : Option Row). is_some row) nodes.now }
+{
+    count_nodes(nodes)
 }
 
 fn hooks_in<B: Node>(node: &Option<Entry<B>>) -> u64
@@ -54,6 +63,7 @@ fn hooks_in<B: Node>(node: &Option<Entry<B>>) -> u64
 }
 
 /// How many hooks all nodes have.
+#[tactic(auto, using(crate::proofs::Counts::summed))]
 pub fn hooks<B: Node>(nodes: &[Option<Entry<B>>]) -> u64
     requires { hook_total nodes.now < 2 ^ 63 }
     ensures { result ≡ hook_total nodes.now }

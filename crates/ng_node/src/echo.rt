@@ -1,9 +1,11 @@
 // ng_echo(4): sends each packet back.
 ghost use Rattle.std.specs.Prelude.{◌≡◌, IfOk};
-ghost use Rattle.ng_node.specs.State.{blank_of, echo_state};
+ghost use Rattle.ng_machine.specs.State.{blank_of};
+ghost use Rattle.ng_node.specs.State.{echo_state};
 
-use crate::{Body, Door, Node, Outcome};
+use crate::Node;
 use ng_base::{Errno, Kind, Name, Names, NoMemory, Sequence};
+use ng_machine::{Body, Door, Outcome};
 use std::alloc::Global;
 use std::marker::Model;
 

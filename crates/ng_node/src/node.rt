@@ -1,11 +1,14 @@
 // What a node is to the layers above.
 ghost use Rattle.std.specs.Prelude.{◌≡◌, false, true, IfOk, IsOk, OnOk, OnErr};
 ghost use Rattle.ng_base.specs.Names.{has_name};
-ghost use Rattle.ng_node.specs.State.{State, kind_of, may_of, with_hook, without_hook};
-ghost use Rattle.ng_node.specs.Case.{IsWritable, outcome_of, state_after};
+ghost use Rattle.ng_machine.specs.Case.{outcome_of};
+ghost use Rattle.ng_machine.specs.Rules.{may_of};
+ghost use Rattle.ng_machine.specs.State.{State, kind_of};
+ghost use Rattle.ng_node.specs.State.{with_hook, without_hook};
+ghost use Rattle.ng_node.specs.Write.{IsWritable, state_after};
 
-use crate::{Body, Outcome};
 use ng_base::{Errno, Kind, Name, NoMemory};
+use ng_machine::{Body, Outcome};
 use std::alloc::Global;
 
 /// A node of some type: netgraph(3)'s methods of a type, over a state that contracts see as data.

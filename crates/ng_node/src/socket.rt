@@ -1,9 +1,11 @@
 // ng_socket(4): hands each packet to the reader.
 ghost use Rattle.std.specs.Prelude.{◌≡◌, IfOk};
-ghost use Rattle.ng_node.specs.State.{blank_of, socket_state};
+ghost use Rattle.ng_machine.specs.State.{blank_of};
+ghost use Rattle.ng_node.specs.State.{socket_state};
 
-use crate::{Body, Door, Exit, Node, Outcome};
+use crate::Node;
 use ng_base::{Errno, Kind, Name, Names, NoMemory, Sequence};
+use ng_machine::{Body, Door, Exit, Outcome};
 use std::alloc::Global;
 use std::marker::Model;
 

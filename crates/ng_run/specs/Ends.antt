@@ -1,20 +1,21 @@
--- How a call ends: its status, its journal and its fault, each with its cause, and what was written.
+-- How a call ends: its status, its journal and its fault, each with its cause, and what was written. That is said for
+-- each way in which messages may be read, since no script that is built so far asks for a message by its name.
 use Rattle.std.specs.Prelude.{◌≡◌, ◌⊎◌, ℕ, ◌<◌, ◌≤◌, Bool, if◌then◌else◌, List, [], length, Option, Some, None, IfSome}
 use Rattle.std.specs.Io.KnownBytes.{Appends}
 use Rattle.ng_base.specs.declared.event.Event.{Event}
 use Rattle.ng_base.specs.declared.kind.Kind.{Kind}
-use Rattle.ngctl_words.specs.declared.command.Command.{Command}
+use Rattle.ng_machine.specs.declared.command.Command.{Command}
+use Rattle.ng_machine.specs.Orderly.{IsOrderly}
+use Rattle.ng_machine.specs.Plain.{IsPlain}
+use Rattle.ng_core.specs.Going.{Messages, ends_stopped}
 use Rattle.ngctl_words.specs.declared.fault.ScriptFault.TheVariants.{Unbuilt, NoMemory as NoMemoryForScript}
 use Rattle.ngctl_words.specs.Script.{IsScript, IsUnbuilt}
 use Rattle.ng_outside.specs.Count.{Rose}
 use Rattle.ng_outside.specs.Write.{AppendsFront}
-use Rattle.ng_core.specs.Run.{ends_stopped}
-use Rattle.ng_core.specs.Orderly.{IsOrderly}
-use Rattle.ng_core.specs.Plain.{IsPlain}
 use Rattle.ng_run.specs.declared.ended.Fault.{Fault}
 use Rattle.ng_run.specs.declared.ended.Fault.TheVariants.{Usage, Script, TooBig, ReadFault, WriteFault, NoMemory}
 use Rattle.ng_run.specs.declared.ended.Which.TheVariants.{Sink, Script as OfScript}
-use Rattle.ng_run.specs.Inputs.{inputs_of, start, budget, run_text}
+use Rattle.ng_run.specs.Inputs.{given_of, start, budget, run_text}
 
 -- a script has at most so many bytes
 abbrev pub most_script : ℕ
@@ -37,35 +38,35 @@ pub record IsRefused (sink : Heard) (journal : List Event) : Type 0 where
   pub silent : Silent sink
 
 -- the script was in form, and the journal is the plain one of its inputs, orderly and whole
-pub record IsRun (kinds : List Kind) (bytes : List ℕ) (journal : List Event) : Type 0 where
+pub record IsRun (messages : Messages) (kinds : List Kind) (bytes : List ℕ) (journal : List Event) : Type 0 where
   pub fits : length bytes ≤ most_script
   pub script : List Command
   pub read : IsScript bytes script
-  pub plain : IsPlain (start kinds) (inputs_of script) budget journal
+  pub plain : IsPlain (start kinds) (given_of messages script) budget journal
 
 -- where memory was wanting in the run or later: the journal is orderly as far as it goes, and what was written is
 -- nothing, or a front of the text of the whole journal
-pub record IsCutShort (kinds : List Kind) (bytes : List ℕ) (sink : Heard) (journal : List Event) : Type 0 where
+pub record IsCutShort (messages : Messages) (kinds : List Kind) (bytes : List ℕ) (sink : Heard) (journal : List Event) : Type 0 where
   pub script : List Command
   pub read : IsScript bytes script
-  pub orderly : IsOrderly (start kinds) (inputs_of script) budget 1 journal
-  pub written : Silent sink ⊎ (IsPlain (start kinds) (inputs_of script) budget journal × AppendsFront sink.old sink.now (run_text kinds script journal))
+  pub orderly : IsOrderly (start kinds) (given_of messages script) budget 1 journal
+  pub written : Silent sink ⊎ (IsPlain (start kinds) (given_of messages script) budget journal × AppendsFront sink.old sink.now (run_text messages kinds script journal))
 
 -- 0, or 2 where the run stopped at its limit
 abbrev pub run_status : List Event → ℕ
 run_status journal = if ends_stopped journal then 2 else 0
 
 -- all of the text was written
-pub record IsWritten (kinds : List Kind) (bytes : List ℕ) (sink : Heard) (status : ℕ) (journal : List Event) : Type 0 where
+pub record IsWritten (messages : Messages) (kinds : List Kind) (bytes : List ℕ) (sink : Heard) (status : ℕ) (journal : List Event) : Type 0 where
   pub status_is : status ≡ run_status journal
-  pub ran : IsRun kinds bytes journal
-  pub text : Appends sink.old sink.now (run_text kinds ran.script journal)
+  pub ran : IsRun messages kinds bytes journal
+  pub text : Appends sink.old sink.now (run_text messages kinds ran.script journal)
 
 -- a write failed: a front of the text was written, and the sink's count of faults rose
-pub record IsHalfWritten (kinds : List Kind) (bytes : List ℕ) (sink : Heard) (status : ℕ) (journal : List Event) : Type 0 where
+pub record IsHalfWritten (messages : Messages) (kinds : List Kind) (bytes : List ℕ) (sink : Heard) (status : ℕ) (journal : List Event) : Type 0 where
   pub status_is : status ≡ 74
-  pub ran : IsRun kinds bytes journal
-  pub front : AppendsFront sink.old sink.now (run_text kinds ran.script journal)
+  pub ran : IsRun messages kinds bytes journal
+  pub front : AppendsFront sink.old sink.now (run_text messages kinds ran.script journal)
   pub cause : Rose sink.before sink.after
 
 -- the first line that isn't of the form
@@ -86,29 +87,29 @@ pub record IsUnreadable (rose : Type 0) (sink : Heard) (status : ℕ) (journal :
   pub cause : rose
 
 -- want of memory has no cause but itself
-pub record IsOutOfMemory (kinds : List Kind) (bytes : List ℕ) (sink : Heard) (status : ℕ) (journal : List Event) : Type 0 where
+pub record IsOutOfMemory (messages : Messages) (kinds : List Kind) (bytes : List ℕ) (sink : Heard) (status : ℕ) (journal : List Event) : Type 0 where
   pub status_is : status ≡ 71
-  pub so_far : IsRefused sink journal ⊎ IsCutShort kinds bytes sink journal
+  pub so_far : IsRefused sink journal ⊎ IsCutShort messages kinds bytes sink journal
 
 -- the ends of a call whose words name a script of these bytes; `rose` says that the count of faults of its file rose
-abbrev pub EndsOn : List Kind → List ℕ → Type 0 → Heard → ℕ → List Event → Option Fault → Type 0
-EndsOn kinds bytes rose sink status journal None = IsWritten kinds bytes sink status journal
-EndsOn kinds bytes rose sink status journal (Some Usage) = ⊥
-EndsOn kinds bytes rose sink status journal (Some (Script (Unbuilt line))) = IsUnread bytes line sink status journal
-EndsOn kinds bytes rose sink status journal (Some (Script NoMemoryForScript)) = ⊥
-EndsOn kinds bytes rose sink status journal (Some (TooBig OfScript)) = IsTooBig bytes sink status journal
-EndsOn kinds bytes rose sink status journal (Some (TooBig Sink)) = ⊥
-EndsOn kinds bytes rose sink status journal (Some (ReadFault OfScript)) = IsUnreadable rose sink status journal
-EndsOn kinds bytes rose sink status journal (Some (ReadFault Sink)) = ⊥
-EndsOn kinds bytes rose sink status journal (Some (WriteFault Sink)) = IsHalfWritten kinds bytes sink status journal
-EndsOn kinds bytes rose sink status journal (Some (WriteFault OfScript)) = ⊥
-EndsOn kinds bytes rose sink status journal (Some NoMemory) = IsOutOfMemory kinds bytes sink status journal
+abbrev pub EndsOn : Messages → List Kind → List ℕ → Type 0 → Heard → ℕ → List Event → Option Fault → Type 0
+EndsOn messages kinds bytes rose sink status journal None = IsWritten messages kinds bytes sink status journal
+EndsOn messages kinds bytes rose sink status journal (Some Usage) = ⊥
+EndsOn messages kinds bytes rose sink status journal (Some (Script (Unbuilt line))) = IsUnread bytes line sink status journal
+EndsOn messages kinds bytes rose sink status journal (Some (Script NoMemoryForScript)) = ⊥
+EndsOn messages kinds bytes rose sink status journal (Some (TooBig OfScript)) = IsTooBig bytes sink status journal
+EndsOn messages kinds bytes rose sink status journal (Some (TooBig Sink)) = ⊥
+EndsOn messages kinds bytes rose sink status journal (Some (ReadFault OfScript)) = IsUnreadable rose sink status journal
+EndsOn messages kinds bytes rose sink status journal (Some (ReadFault Sink)) = ⊥
+EndsOn messages kinds bytes rose sink status journal (Some (WriteFault Sink)) = IsHalfWritten messages kinds bytes sink status journal
+EndsOn messages kinds bytes rose sink status journal (Some (WriteFault OfScript)) = ⊥
+EndsOn messages kinds bytes rose sink status journal (Some NoMemory) = IsOutOfMemory messages kinds bytes sink status journal
 
 -- the same where the file may tell nothing of what it holds: it has some bytes, and those that it tells
-pub record Ends (kinds : List Kind) (told : Option (List ℕ)) (rose : Type 0) (sink : Heard) (status : ℕ) (journal : List Event) (fault : Option Fault) : Type 0 where
+pub record Ends (messages : Messages) (kinds : List Kind) (told : Option (List ℕ)) (rose : Type 0) (sink : Heard) (status : ℕ) (journal : List Event) (fault : Option Fault) : Type 0 where
   pub bytes : List ℕ
   pub as_told : IfSome told (λ held. held ≡ bytes)
-  pub ends : EndsOn kinds bytes rose sink status journal fault
+  pub ends : EndsOn messages kinds bytes rose sink status journal fault
 
 -- the words are not one name of a script
 pub record IsUsage (sink : Heard) (status : ℕ) (journal : List Event) (fault : Option Fault) : Type 0 where
@@ -117,9 +118,9 @@ pub record IsUsage (sink : Heard) (status : ℕ) (journal : List Event) (fault :
   pub refused : IsRefused sink journal
 
 -- the ends of a call, by the name that its words give
-abbrev pub EndsBy : List Kind → Option (List ℕ) → (List ℕ → Option (List ℕ)) → (List ℕ → ℕ) → (List ℕ → ℕ) → Heard → ℕ → List Event → Option Fault → Type 0
-EndsBy kinds None held before after sink status journal fault = IsUsage sink status journal fault
-EndsBy kinds (Some name) held before after sink status journal fault = Ends kinds (held name) (Rose (before name) (after name)) sink status journal fault
+abbrev pub EndsBy : Messages → List Kind → Option (List ℕ) → (List ℕ → Option (List ℕ)) → (List ℕ → ℕ) → (List ℕ → ℕ) → Heard → ℕ → List Event → Option Fault → Type 0
+EndsBy messages kinds None held before after sink status journal fault = IsUsage sink status journal fault
+EndsBy messages kinds (Some name) held before after sink status journal fault = Ends messages kinds (held name) (Rose (before name) (after name)) sink status journal fault
 
 -- The rows of the table of statuses, one by one
 
@@ -138,14 +139,14 @@ Comes fault due = (fault ≡ Some due) ⊎ ((fault ≡ Some (ReadFault OfScript)
 
 -- a script in form runs: all of the text of its plain journal is written, or a front of it where a write fails,
 -- unless the read of the script failed or memory was wanting
-abbrev pub RunsAs : List Kind → List Command → Heard → ℕ → List Event → Option Fault → Type 0
-RunsAs kinds script sink status journal None = IsPlain (start kinds) (inputs_of script) budget journal × Appends sink.old sink.now (run_text kinds script journal)
-RunsAs kinds script sink status journal (Some (WriteFault which)) = IsPlain (start kinds) (inputs_of script) budget journal × AppendsFront sink.old sink.now (run_text kinds script journal) × Rose sink.before sink.after
-RunsAs kinds script sink status journal (Some (ReadFault which)) = IsRefused sink journal
-RunsAs kinds script sink status journal (Some NoMemory) = IsRefused sink journal ⊎ IsOrderly (start kinds) (inputs_of script) budget 1 journal
-RunsAs kinds script sink status journal (Some Usage) = ⊥
-RunsAs kinds script sink status journal (Some (Script fault)) = ⊥
-RunsAs kinds script sink status journal (Some (TooBig which)) = ⊥
+abbrev pub RunsAs : Messages → List Kind → List Command → Heard → ℕ → List Event → Option Fault → Type 0
+RunsAs messages kinds script sink status journal None = IsPlain (start kinds) (given_of messages script) budget journal × Appends sink.old sink.now (run_text messages kinds script journal)
+RunsAs messages kinds script sink status journal (Some (WriteFault which)) = IsPlain (start kinds) (given_of messages script) budget journal × AppendsFront sink.old sink.now (run_text messages kinds script journal) × Rose sink.before sink.after
+RunsAs messages kinds script sink status journal (Some (ReadFault which)) = IsRefused sink journal
+RunsAs messages kinds script sink status journal (Some NoMemory) = IsRefused sink journal ⊎ IsOrderly (start kinds) (given_of messages script) budget 1 journal
+RunsAs messages kinds script sink status journal (Some Usage) = ⊥
+RunsAs messages kinds script sink status journal (Some (Script fault)) = ⊥
+RunsAs messages kinds script sink status journal (Some (TooBig which)) = ⊥
 
 -- The ends of the parts of a call
 
@@ -160,19 +161,19 @@ PrintEnds text stopped sink status (Some (Script fault)) = ⊥
 PrintEnds text stopped sink status (Some (TooBig which)) = ⊥
 PrintEnds text stopped sink status (Some (ReadFault which)) = ⊥
 
-abbrev pub IsPlainRun : List Kind → List Command → List Event → Type 0
-IsPlainRun kinds script journal = IsPlain (start kinds) (inputs_of script) budget journal
+abbrev pub IsPlainRun : Messages → List Kind → List Command → List Event → Type 0
+IsPlainRun messages kinds script journal = IsPlain (start kinds) (given_of messages script) budget journal
 
-abbrev pub IsOrderlyRun : List Kind → List Command → List Event → Type 0
-IsOrderlyRun kinds script journal = IsOrderly (start kinds) (inputs_of script) budget 1 journal
+abbrev pub IsOrderlyRun : Messages → List Kind → List Command → List Event → Type 0
+IsOrderlyRun messages kinds script journal = IsOrderly (start kinds) (given_of messages script) budget 1 journal
 
 -- of running a script that was read
-abbrev pub EndsRun : List Kind → List Command → Heard → ℕ → List Event → Option Fault → Type 0
-EndsRun kinds script sink status journal None = (status ≡ run_status journal) × IsPlainRun kinds script journal × Appends sink.old sink.now (run_text kinds script journal)
-EndsRun kinds script sink status journal (Some (WriteFault Sink)) = (status ≡ 74) × IsPlainRun kinds script journal × AppendsFront sink.old sink.now (run_text kinds script journal) × Rose sink.before sink.after
-EndsRun kinds script sink status journal (Some (WriteFault OfScript)) = ⊥
-EndsRun kinds script sink status journal (Some NoMemory) = (status ≡ 71) × IsOrderlyRun kinds script journal × (Silent sink ⊎ (IsPlainRun kinds script journal × AppendsFront sink.old sink.now (run_text kinds script journal)))
-EndsRun kinds script sink status journal (Some Usage) = ⊥
-EndsRun kinds script sink status journal (Some (Script fault)) = ⊥
-EndsRun kinds script sink status journal (Some (TooBig which)) = ⊥
-EndsRun kinds script sink status journal (Some (ReadFault which)) = ⊥
+abbrev pub EndsRun : Messages → List Kind → List Command → Heard → ℕ → List Event → Option Fault → Type 0
+EndsRun messages kinds script sink status journal None = (status ≡ run_status journal) × IsPlainRun messages kinds script journal × Appends sink.old sink.now (run_text messages kinds script journal)
+EndsRun messages kinds script sink status journal (Some (WriteFault Sink)) = (status ≡ 74) × IsPlainRun messages kinds script journal × AppendsFront sink.old sink.now (run_text messages kinds script journal) × Rose sink.before sink.after
+EndsRun messages kinds script sink status journal (Some (WriteFault OfScript)) = ⊥
+EndsRun messages kinds script sink status journal (Some NoMemory) = (status ≡ 71) × IsOrderlyRun messages kinds script journal × (Silent sink ⊎ (IsPlainRun messages kinds script journal × AppendsFront sink.old sink.now (run_text messages kinds script journal)))
+EndsRun messages kinds script sink status journal (Some Usage) = ⊥
+EndsRun messages kinds script sink status journal (Some (Script fault)) = ⊥
+EndsRun messages kinds script sink status journal (Some (TooBig which)) = ⊥
+EndsRun messages kinds script sink status journal (Some (ReadFault which)) = ⊥

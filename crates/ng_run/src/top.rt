@@ -1,16 +1,16 @@
 // The top call.
 ghost use Rattle.std.specs.Prelude.{◌≡◌, ◌<◌, ◌≤◌, ◌↔◌, ◌^◌, [], All, true, length, map, string_bytes, IfOk, IfSome, Some, None, List, ℕ};
 ghost use Rattle.ng_base.specs.declared.kind.Kind.{Kind};
-ghost use Rattle.ng_node.specs.State.{kind_of, blank_of};
+ghost use Rattle.ng_machine.specs.declared.command.Command.{Command};
+ghost use Rattle.ng_machine.specs.State.{kind_of, blank_of};
+ghost use Rattle.ng_machine.specs.Stock.{has_kind};
+ghost use Rattle.ng_machine.specs.Totals.{hook_total};
 ghost use Rattle.ng_outside.specs.Count.{Rose};
 ghost use Rattle.ngctl_words.specs.Form.{IsInForm};
 ghost use Rattle.ngctl_print.specs.Fits.{AllToldFit};
-ghost use Rattle.ng_core.specs.Kinds.{has_kind};
-ghost use Rattle.ng_core.specs.Numbers.{hook_total};
-ghost use Rattle.ng_core.specs.Run.{ends_stopped};
+ghost use Rattle.ng_core.specs.Going.{Messages};
 ghost use Rattle.ng_run.specs.Words.{script_name};
 ghost use Rattle.ng_run.specs.Inputs.{text_at};
-ghost use Rattle.ngctl_words.specs.declared.command.Command.{Command};
 ghost use Rattle.ngctl_words.specs.Script.{IsScript, IsUnbuilt};
 ghost use Rattle.ng_run.specs.Ends.{EndsBy, EndsRun, PrintEnds, RunsAs, Comes, status_of, most_script};
 
@@ -92,7 +92,7 @@ fn run_script<O: Sink, B: Node>(alloc: Global, script: &Script, out: &mut O, sto
     requires form { IsInForm script.now }
     requires blank { All (λ b. B.state b ≡ blank_of (kind_of (B.state b))) stock.items }
     requires socket { has_kind (map (λ b. kind_of (B.state b)) stock.items) Kind.Socket ≡ true }
-    ensures { EndsRun (map (λ b. kind_of (B.state b)) stock.items) script.now (record { old = O.held out.old; now = O.held out.new; before = O.faults out.old; after = O.faults out.new }) result.status result.journal.items result.fault }
+    ensures { (messages : Messages) → EndsRun messages (map (λ b. kind_of (B.state b)) stock.items) script.now (record { old = O.held out.old; now = O.held out.new; before = O.faults out.old; after = O.faults out.new }) result.status result.journal.items result.fault }
 {
     let Ok(inputs) = inputs(alloc, script.commands()) else {
         return refused(alloc, 71, Fault::NoMemory);
@@ -132,7 +132,7 @@ pub fn run_words<F: Files, O: Sink, B: Node>(
 ) -> Ended
     requires blank { All (λ b. B.state b ≡ blank_of (kind_of (B.state b))) stock.items }
     requires socket { has_kind (map (λ b. kind_of (B.state b)) stock.items) Kind.Socket ≡ true }
-    ensures ends { EndsBy (map (λ b. kind_of (B.state b)) stock.items) (script_name (map (λ word. string_bytes word) words.now)) (F.held files.old) (F.faults files.old) (F.faults files.new)
+    ensures ends { (messages : Messages) → EndsBy messages (map (λ b. kind_of (B.state b)) stock.items) (script_name (map (λ word. string_bytes word) words.now)) (F.held files.old) (F.faults files.old) (F.faults files.new)
         (record { old = O.held out.old; now = O.held out.new; before = O.faults out.old; after = O.faults out.new }) result.status result.journal.items result.fault }
     ensures files { F.held files.new ≡ F.held files.old }
 {
@@ -172,7 +172,7 @@ pub fn ngrun<F: Files, O: Sink>(
     requires blank { All (λ b. state b ≡ blank_of (kind_of (state b))) stock.items }
     requires socket { has_kind (map (λ b. kind_of (state b)) stock.items) Kind.Socket ≡ true }
     requires echo { has_kind (map (λ b. kind_of (state b)) stock.items) Kind.Echo ≡ true }
-    ensures ends { EndsBy (map (λ b. kind_of (state b)) stock.items) (script_name (map (λ word. string_bytes word) words.now)) (F.held files.old) (F.faults files.old) (F.faults files.new)
+    ensures ends { (messages : Messages) → EndsBy messages (map (λ b. kind_of (state b)) stock.items) (script_name (map (λ word. string_bytes word) words.now)) (F.held files.old) (F.faults files.old) (F.faults files.new)
         (record { old = O.held out.old; now = O.held out.new; before = O.faults out.old; after = O.faults out.new }) result.status result.journal.items result.fault }
     ensures files { F.held files.new ≡ F.held files.old }
     ensures status { result.status ≡ status_of result.fault result.journal.items }
@@ -181,9 +181,9 @@ pub fn ngrun<F: Files, O: Sink>(
         → most_script < length bytes → Comes result.fault (Fault.TooBig Which.Script) }
     ensures unbuilt { (name bytes : List ℕ) (line : ℕ) → script_name (map (λ word. string_bytes word) words.now) ≡ Some name → F.held files.old name ≡ Some bytes
         → length bytes ≤ most_script → IsUnbuilt bytes line → Comes result.fault (Fault.Script (ScriptFault.Unbuilt line)) }
-    ensures runs { (name bytes : List ℕ) (script : List Command) → script_name (map (λ word. string_bytes word) words.now) ≡ Some name → F.held files.old name ≡ Some bytes
+    ensures runs { (messages : Messages) (name bytes : List ℕ) (script : List Command) → script_name (map (λ word. string_bytes word) words.now) ≡ Some name → F.held files.old name ≡ Some bytes
         → length bytes ≤ most_script → IsScript bytes script
-        → RunsAs (map (λ b. kind_of (state b)) stock.items) script (record { old = O.held out.old; now = O.held out.new; before = O.faults out.old; after = O.faults out.new }) result.status result.journal.items result.fault }
+        → RunsAs messages (map (λ b. kind_of (state b)) stock.items) script (record { old = O.held out.old; now = O.held out.new; before = O.faults out.old; after = O.faults out.new }) result.status result.journal.items result.fault }
 {
     run_words(alloc, words, files, out, stock)
 }

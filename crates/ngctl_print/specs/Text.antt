@@ -2,16 +2,27 @@
 use Rattle.std.specs.Prelude.{ℕ, Bool, if◌then◌else◌, List, [], ◌∷◌, ◌++◌, codes}
 use Rattle.std.specs.Fmt.{decimal}
 use Rattle.std.specs.List.{concat, flat_map}
-use Rattle.ng_node.specs.declared.told.Told.{Told}
-use Rattle.ng_node.specs.declared.told.Told.TheVariants.{Line, Frame}
-use Rattle.ng_node.specs.declared.totals.Totals.{Totals}
-use Rattle.ngctl_words.specs.declared.command.Command.{Command}
+use Rattle.ng_base.specs.declared.errno.Errno.{Errno}
+use Rattle.ng_base.specs.Errno.{errno_text}
+use Rattle.ng_machine.specs.declared.command.Command.{Command}
+use Rattle.ng_machine.specs.declared.told.Told.{Told}
+use Rattle.ng_machine.specs.declared.told.Told.TheVariants.{Line, Refused, Help, Answer, Frame}
+use Rattle.ng_machine.specs.declared.totals.Totals.{Totals}
 use Rattle.ngctl_words.specs.Script.{line_of}
 use Rattle.ngctl_print.specs.Dump.{line_feed, dump}
 
 -- the line of a command that was fed
 unfoldable pub command_line : List ℕ → List ℕ
 command_line line = codes "+ " ++ (line ++ line_feed)
+
+-- the words of a refusal; nothing where there are none
+abbrev pub why_text : List ℕ → List ℕ
+why_text [] = []
+why_text (byte ∷ why) = codes " (" ++ (byte ∷ why ++ codes ")")
+
+-- a command that was refused: the number of the error, its text and the words
+unfoldable pub refused_line : Errno → List ℕ → List ℕ
+refused_line errno why = codes "error " ++ (decimal errno.0 ++ (codes ": " ++ (errno_text errno.0 ++ (why_text why ++ line_feed))))
 
 -- a packet that reached the socket by a hook: the hook, and the bytes
 unfoldable pub frame_line : List ℕ → List ℕ
@@ -20,8 +31,12 @@ frame_line hook = codes "data on " ++ (hook ++ (codes ":" ++ line_feed))
 abbrev pub frame_text : List ℕ → List ℕ → List ℕ
 frame_text hook packet = frame_line hook ++ dump packet
 
+-- one entry. Help and answers have no text yet: theirs come with the commands that ask for them.
 abbrev pub told_text : List Command → Told → List ℕ
 told_text script (Line command) = command_line (line_of script command)
+told_text script (Refused command errno why) = refused_line errno why
+told_text script (Help command) = []
+told_text script (Answer command from cookie number bytes) = []
 told_text script (Frame hook packet) = frame_text hook packet
 
 -- the summary

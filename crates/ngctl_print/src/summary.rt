@@ -5,7 +5,7 @@ ghost use Rattle.ngctl_print.specs.Text.{fed_line, dropped_line, lost_line, grap
 
 use crate::PrintStop;
 use crate::line::put_line;
-use ng_node::Totals;
+use ng_machine::Totals;
 use ng_outside::Sink;
 use std::alloc::{AllocError, Global};
 

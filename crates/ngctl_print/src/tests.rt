@@ -1,7 +1,7 @@
 // The text of runs, as tables, and what a sink holds of it that is slow, fails or has little room.
 use crate::{PrintStop, print_summary, print_text, print_told};
-use ng_base::{Name, NoMemory, Packet};
-use ng_node::{Told, Totals};
+use ng_base::{Bytes, Errno, Name, NoMemory, Packet};
+use ng_machine::{Told, Totals};
 use ng_outside::MemSink;
 use ngctl_words::{Script, read_script};
 use std::alloc::Global;
@@ -147,6 +147,30 @@ graph: nodes 10, hooks 4100
 
 fn no_script(alloc: Global) -> Result<Script, Fail> {
     Ok(read_script(alloc, b"")?)
+}
+
+#[test]
+fn a_refused_command_is_told_with_its_error(rt: HostRuntime) -> Result<(), Fail> {
+    let script = no_script(rt.alloc())?;
+    for (errno, why, text) in [
+        (Errno::EXIST, "", "error 17: File exists\n"),
+        (
+            Errno::INVAL,
+            "bad path",
+            "error 22: Invalid argument (bad path)\n",
+        ),
+    ] {
+        let told = Told::Refused {
+            command: 1,
+            errno,
+            why: Bytes(Vec::from_slice(rt.alloc(), why.as_bytes())?),
+        };
+        let mut sink = sink_of(rt.alloc(), 1000, false, 0)?;
+        print_told(rt.alloc(), &script, &told, &mut sink)?;
+        assert_eq!(rt; str::from_utf8(sink.bytes())?, text);
+        assert_eq!(rt; sink.calls(), 1);
+    }
+    Ok(())
 }
 
 // The bytes of the packets below, and their lines as hexdump(1) writes them.

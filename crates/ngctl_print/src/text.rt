@@ -5,7 +5,7 @@ ghost use Rattle.ngctl_print.specs.Text.{text_of};
 
 use crate::told::print_all_told;
 use crate::{PrintStop, print_summary};
-use ng_node::{Told, Totals};
+use ng_machine::{Told, Totals};
 use ng_outside::Sink;
 use ngctl_words::Script;
 use std::alloc::Global;
@@ -14,7 +14,7 @@ use std::alloc::Global;
 /// were fed, and `stopped` tells that the run stopped before its end. Each line is put by itself,
 /// with its LF: all of it is offered first, and then what is left of it.
 ///
-/// A packet that is told has at most 262,144 bytes.
+/// A packet that is told has at most 262,144 bytes. Help and answers are not told.
 ///
 /// # Errors
 /// `Fault` where the sink failed, `NoMemory` for want of memory. A front of the text was put then.

@@ -2,9 +2,9 @@
 use Rattle.std.proofs.Common.{◌≡◌, ℕ, List, [], ◌∷◌, ◌++◌, codes, refl, sym, ◌∙◌, arith}
 use Rattle.std.specs.Fmt.{decimal}
 use Rattle.ng_base.specs.Name.{IsName}
-use Rattle.ngctl_words.specs.declared.command.What.{What}
-use Rattle.ngctl_words.specs.declared.command.What.TheVariants.{Mkpeer, Write}
-use Rattle.ngctl_words.specs.declared.command.Command.{Command}
+use Rattle.ng_machine.specs.declared.command.What.{What}
+use Rattle.ng_machine.specs.declared.command.What.TheVariants.{Mkpeer, Write}
+use Rattle.ng_machine.specs.declared.command.Command.{Command}
 use Rattle.ngctl_words.specs.Line.{word, number_words, line_text, hook_of}
 use Rattle.ngctl_words.specs.Form.{AreBytes, IsEchoMade, IsWriteTo, IsEchoThenWrites, IsInForm}
 use Rattle.ngctl_words.specs.Reading.{IsFree, StopsAt, MayFollow, IsNextLine, IsLineOf}
@@ -37,18 +37,18 @@ free_write : IsFree 0x0a write_front
 free_write = (omega arith, (omega arith, (omega arith, (omega arith, (omega arith, tt)))))
 
 echo_line_is_free : (what : What) → IsEchoMade what → IsFree 0x0a (line_text what)
-echo_line_is_free (Mkpeer kind hook peerhook) made =
-    rw made.0 (free_append 0x0a mkpeer_front (word (codes "echo") ++ (word hook ++ word peerhook)) free_mkpeer (free_append 0x0a (word (codes "echo")) (word hook ++ word peerhook) free_echo (free_append 0x0a (word hook) (word peerhook) (free_name hook made.1) (free_name peerhook made.2))))
-echo_line_is_free (Write hook packet) made = absurd made
+echo_line_is_free (Mkpeer path kind_name hook peerhook) made =
+    rw (made.0, made.1) (free_append 0x0a mkpeer_front (word (codes "echo") ++ (word hook ++ word peerhook)) free_mkpeer (free_append 0x0a (word (codes "echo")) (word hook ++ word peerhook) free_echo (free_append 0x0a (word hook) (word peerhook) (free_name hook made.2) (free_name peerhook made.3))))
+echo_line_is_free _ made = absurd made
 
 write_line_is_free : (hook : List ℕ) (what : What) → IsName hook → IsWriteTo hook what → IsFree 0x0a (line_text what)
-write_line_is_free hook (Mkpeer kind ours theirs) named w = absurd w
 write_line_is_free hook (Write to packet) named w =
     free_append 0x0a write_front (word to ++ number_words packet) free_write (free_append 0x0a (word to) (number_words packet) (rw w.0 (free_name hook named)) (free_numbers packet w.2))
+write_line_is_free hook _ named w = absurd w
 
 pub hook_is_named : (what : What) → IsEchoMade what → IsName (hook_of what)
-hook_is_named (Mkpeer kind hook peerhook) made = made.1
-hook_is_named (Write hook packet) made = absurd made
+hook_is_named (Mkpeer path kind_name hook peerhook) made = made.2
+hook_is_named _ made = absurd made
 
 pub line_is_free : (before : List Command) (what : What) → IsEchoThenWrites before → MayFollow before what → IsFree 0x0a (line_text what)
 line_is_free [] what form follows = echo_line_is_free what follows

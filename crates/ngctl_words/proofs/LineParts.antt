@@ -1,11 +1,9 @@
 -- The parts of a line, from the front: what is left behind each of them.
-use Rattle.std.proofs.Common.{◌≡◌, ◌≢◌, ℕ, ◌<◌, List, [], ◌∷◌, ◌++◌, length, codes, refl, sym, ap, ◌∙◌, arith}
+use Rattle.std.proofs.Common.{◌≡◌, ◌≢◌, ℕ, ◌<◌, List, [], ◌∷◌, ◌++◌, length, codes, Option, Some, refl, sym, ap, subst, ◌∙◌, arith}
 use Rattle.std.proofs.lemmas.List.{append-nil, append_cancel_left}
 use Rattle.ng_base.specs.Name.{IsName}
-use Rattle.ng_base.specs.declared.kind.Kind.{Kind}
-use Rattle.ng_base.specs.declared.kind.Kind.TheVariants.{Echo}
-use Rattle.ngctl_words.specs.declared.command.What.{What}
-use Rattle.ngctl_words.specs.declared.command.What.TheVariants.{Mkpeer, Write}
+use Rattle.ng_machine.specs.declared.command.What.{What}
+use Rattle.ng_machine.specs.declared.command.What.TheVariants.{Mkpeer, Write}
 use Rattle.ngctl_words.specs.Line.{word, number_words, line_text}
 use Rattle.ngctl_words.specs.Form.{AreBytes, IsEchoMade, IsWriteTo}
 use Rattle.ngctl_words.specs.Reading.{IsFree, IsSplit, IsLineOf, IsNumbers}
@@ -54,8 +52,8 @@ abbrev pub write_front : List ℕ
 write_front = codes "write"
 
 -- what an echo's line is
-pub mkpeer_line : (kind : Kind) (hook peerhook : List ℕ) → kind ≡ Echo → line_text (Mkpeer kind hook peerhook) ≡ mkpeer_front ++ (word (codes "echo") ++ (word hook ++ word peerhook))
-mkpeer_line kind hook peerhook e = rw e refl
+pub mkpeer_line : (path : Option (List ℕ)) (kind_name hook peerhook : List ℕ) → path ≡ Some (codes ".") → kind_name ≡ codes "echo" → line_text (Mkpeer path kind_name hook peerhook) ≡ mkpeer_front ++ (word (codes "echo") ++ (word hook ++ word peerhook))
+mkpeer_line path kind_name hook peerhook here echo = rw (here, echo) refl
 
 pub record IsMkpeerLine (line : List ℕ) : Type 0 where
   pub rest : List ℕ
@@ -63,12 +61,12 @@ pub record IsMkpeerLine (line : List ℕ) : Type 0 where
   pub kind : IsKindText rest
 
 pub mkpeer_line_of : (line : List ℕ) (what : What) → IsLineOf IsEchoMade line what → IsMkpeerLine line
-mkpeer_line_of line (Mkpeer kind hook peerhook) w = record {
+mkpeer_line_of line (Mkpeer path kind_name hook peerhook) w = record {
   rest = word (codes "echo") ++ (word hook ++ word peerhook);
-  text = w.1 ∙ mkpeer_line kind hook peerhook w.0.0;
-  kind = kind_text_of hook peerhook w.0.1 w.0.2;
+  text = w.1 ∙ mkpeer_line path kind_name hook peerhook w.0.0 w.0.1;
+  kind = kind_text_of hook peerhook w.0.2 w.0.3;
 }
-mkpeer_line_of line (Write hook packet) w = absurd w.0
+mkpeer_line_of line _ w = absurd w.0
 
 -- behind the front, behind the kind, behind each hook
 pub behind_front : (line rest : List ℕ) → line ≡ mkpeer_front ++ rest → IsMkpeerLine line → IsKindText rest
@@ -99,9 +97,16 @@ whole_mkpeer line first kind second hook third peerhook rest front kind_split ho
     let words : first ≡ word (codes "echo") ++ (word hook ++ word peerhook) = kind_split.whole ∙ ap (λ (t : List ℕ). word t ++ second) e ∙ ap (λ (t : List ℕ). word (codes "echo") ++ t) middle in
     front ∙ ap (λ (t : List ℕ). mkpeer_front ++ t) words
 
-pub mkpeer_read : (line hook peerhook ours theirs : List ℕ) → line ≡ mkpeer_front ++ (word (codes "echo") ++ (word hook ++ word peerhook)) → (ours ≡ hook) × IsName hook → (theirs ≡ peerhook) × IsName peerhook → IsLineOf IsEchoMade line (Mkpeer Echo ours theirs)
-mkpeer_read line hook peerhook ours theirs e our their =
-    ((refl, rw our.0 our.1, rw their.0 their.1), e ∙ sym (ap (λ (t : List ℕ). mkpeer_front ++ (word (codes "echo") ++ (word t ++ word theirs))) our.0 ∙ ap (λ (t : List ℕ). mkpeer_front ++ (word (codes "echo") ++ (word hook ++ word t))) their.0))
+pub mkpeer_read : (line hook peerhook kind_name ours theirs : List ℕ) → line ≡ mkpeer_front ++ (word (codes "echo") ++ (word hook ++ word peerhook)) → kind_name ≡ codes "echo" → (ours ≡ hook) × IsName hook → (theirs ≡ peerhook) × IsName peerhook → IsLineOf IsEchoMade line (Mkpeer (Some (codes ".")) kind_name ours theirs)
+mkpeer_read line hook peerhook kind_name ours theirs e echo our their =
+    let words : line_text (Mkpeer (Some (codes ".")) kind_name ours theirs) ≡ mkpeer_front ++ (word (codes "echo") ++ (word ours ++ word theirs)) = mkpeer_line (Some (codes ".")) kind_name ours theirs refl echo in
+    ((refl, echo, rw our.0 our.1, rw their.0 their.1), e ∙ sym (words ∙ ap (λ (t : List ℕ). mkpeer_front ++ (word (codes "echo") ++ (word t ++ word theirs))) our.0 ∙ ap (λ (t : List ℕ). mkpeer_front ++ (word (codes "echo") ++ (word hook ++ word t))) their.0))
+
+-- a command that makes an echo has these words
+pub no_mkpeer : (line : List ℕ) → ((kind_name hook peerhook : List ℕ) → IsLineOf IsEchoMade line (Mkpeer (Some (codes ".")) kind_name hook peerhook) → ⊥) → (what : What) → IsLineOf IsEchoMade line what → ⊥
+no_mkpeer line none (Mkpeer path kind_name hook peerhook) w =
+    none kind_name hook peerhook (subst (λ (p : Option (List ℕ)). IsLineOf IsEchoMade line (Mkpeer p kind_name hook peerhook)) w.0.0 w)
+no_mkpeer line none _ w = absurd w.0
 
 -- ---- write
 
@@ -117,12 +122,12 @@ pub record IsWriteLine (hook line : List ℕ) : Type 0 where
   pub words : IsWriteText hook rest
 
 pub write_line_of : (hook line : List ℕ) (what : What) → IsLineOf (IsWriteTo hook) line what → IsWriteLine hook line
-write_line_of hook line (Mkpeer kind ours theirs) w = absurd w.0
 write_line_of hook line (Write to packet) w = record {
   rest = word hook ++ number_words packet;
   text = w.1 ∙ ap (λ (t : List ℕ). write_front ++ (word t ++ number_words packet)) w.0.0;
   words = record { packet = packet; some = w.0.1; bytes = w.0.2; whole = refl };
 }
+write_line_of hook line _ w = absurd w.0
 
 pub behind_write : (hook line rest : List ℕ) → line ≡ write_front ++ rest → IsWriteLine hook line → IsWriteText hook rest
 behind_write hook line rest e m = let same : m.rest ≡ rest = append_cancel_left write_front m.rest rest (sym m.text ∙ e) in rw (← same) m.words

@@ -3,9 +3,9 @@ use Rattle.std.proofs.Common.{ℕ, ◌*◌, ◌≤◌, List, [], ◌∷◌, leng
 use Rattle.std.specs.Fmt.{decimal}
 use Rattle.std.specs.List.{AllByRecursion}
 use Rattle.std.proofs.lemmas.Fmt.{decimal_nonempty}
-use Rattle.ngctl_words.specs.declared.command.What.{What}
-use Rattle.ngctl_words.specs.declared.command.What.TheVariants.{Mkpeer, Write}
-use Rattle.ngctl_words.specs.declared.command.Command.{Command}
+use Rattle.ng_machine.specs.declared.command.What.{What}
+use Rattle.ng_machine.specs.declared.command.What.TheVariants.{Mkpeer, Write}
+use Rattle.ng_machine.specs.declared.command.Command.{Command}
 use Rattle.ngctl_words.specs.Line.{word, number_words, line_text, hook_of}
 use Rattle.ngctl_words.specs.Form.{AreBytes, IsWriteTo, IsLine, IsEchoMade, IsEchoThenWrites, IsInForm, IsPacketShort, EveryPacketFits}
 
@@ -15,9 +15,9 @@ two_each (b ∷ bytes) all =
     omega (arith, two_each bytes all.1, decimal_nonempty b (omega (arith, all.0)), length-append (word (decimal b)) (number_words bytes))
 
 short_packet : (hook : List ℕ) (what : What) → IsWriteTo hook what → length (line_text what) ≤ 4096 → IsPacketShort what
-short_packet hook (Mkpeer kind ours theirs) is short = tt
 short_packet hook (Write to packet) is short =
     omega (arith, two_each packet is.2, length-append (word to) (number_words packet), short)
+short_packet hook _ is short = absurd is
 
 short_line : (hook : List ℕ) (c : Command) → IsWriteTo hook c.what → IsLine c → IsPacketShort c.what
 short_line hook c is line = short_packet hook c.what is (rw line.text at line.short)
@@ -27,8 +27,8 @@ short_writes hook [] all lines = tt
 short_writes hook (c ∷ cs) all lines = (short_line hook c all.0 lines.0, short_writes hook cs all.1 lines.1)
 
 short_echo : (what : What) → IsEchoMade what → IsPacketShort what
-short_echo (Mkpeer kind hook peerhook) made = tt
-short_echo (Write hook packet) made = absurd made
+short_echo (Mkpeer path kind_name hook peerhook) made = tt
+short_echo _ made = absurd made
 
 in_order : (cs : List Command) → AllByRecursion IsLine cs → IsEchoThenWrites cs → EveryPacketFits cs
 in_order [] lines order = tt

@@ -6,9 +6,9 @@ use Rattle.std.proofs.lemmas.List.{append-nil, append_cancel_left}
 use Rattle.std.proofs.lemmas.Fmt.{decimal_injective}
 use Rattle.std.proofs.lemmas.Bool.{cases_lt}
 use Rattle.ng_base.specs.Name.{IsName}
-use Rattle.ngctl_words.specs.declared.command.What.{What}
-use Rattle.ngctl_words.specs.declared.command.What.TheVariants.{Mkpeer, Write}
-use Rattle.ngctl_words.specs.declared.command.Command.{Command}
+use Rattle.ng_machine.specs.declared.command.What.{What}
+use Rattle.ng_machine.specs.declared.command.What.TheVariants.{Mkpeer, Write}
+use Rattle.ng_machine.specs.declared.command.Command.{Command}
 use Rattle.ngctl_words.specs.Line.{word, number_words, line_text, hook_of}
 use Rattle.ngctl_words.specs.Form.{AreBytes, IsEchoMade, IsWriteTo, IsEchoThenWrites, IsInForm, IsLine, CountsFrom}
 use Rattle.ngctl_words.specs.Script.{script_text, IsScript, IsUnbuilt}
@@ -38,19 +38,18 @@ same_hooks hook ours peerhook theirs named own e =
     (both.0, cc both.1)
 
 same_echo : (a b : What) → IsEchoMade a → IsEchoMade b → line_text a ≡ line_text b → a ≡ b
-same_echo (Mkpeer kind hook peerhook) (Mkpeer other ours theirs) fa fb e =
-    let lines : mkpeer_front ++ (word (codes "echo") ++ (word hook ++ word peerhook)) ≡ mkpeer_front ++ (word (codes "echo") ++ (word ours ++ word theirs)) = sym (mkpeer_line kind hook peerhook fa.0) ∙ e ∙ mkpeer_line other ours theirs fb.0 in
+same_echo (Mkpeer path kind_name hook peerhook) (Mkpeer here other ours theirs) fa fb e =
+    let lines : mkpeer_front ++ (word (codes "echo") ++ (word hook ++ word peerhook)) ≡ mkpeer_front ++ (word (codes "echo") ++ (word ours ++ word theirs)) = sym (mkpeer_line path kind_name hook peerhook fa.0 fa.1) ∙ e ∙ mkpeer_line here other ours theirs fb.0 fb.1 in
     let words = append_cancel_left mkpeer_front (word (codes "echo") ++ (word hook ++ word peerhook)) (word (codes "echo") ++ (word ours ++ word theirs)) lines in
     let hooks = append_cancel_left (word (codes "echo")) (word hook ++ word peerhook) (word ours ++ word theirs) words in
-    let both = same_hooks hook ours peerhook theirs fa.1 fb.1 hooks in
-    let kinds : kind ≡ other = fa.0 ∙ sym fb.0 in
-    cc (kinds, both.0, both.1)
-same_echo (Mkpeer kind hook peerhook) (Write to packet) fa fb e = absurd fb
-same_echo (Write hook packet) b fa fb e = absurd fa
+    let both = same_hooks hook ours peerhook theirs fa.2 fb.2 hooks in
+    let paths : path ≡ here = fa.0 ∙ sym fb.0 in
+    let kinds : kind_name ≡ other = fa.1 ∙ sym fb.1 in
+    cc (paths, kinds, both.0, both.1)
+same_echo (Mkpeer path kind_name hook peerhook) _ fa fb e = absurd fb
+same_echo _ b fa fb e = absurd fa
 
 same_write : (hook : List ℕ) (a b : What) → IsWriteTo hook a → IsWriteTo hook b → line_text a ≡ line_text b → a ≡ b
-same_write hook (Mkpeer kind ours theirs) b fa fb e = absurd fa
-same_write hook (Write to packet) (Mkpeer kind ours theirs) fa fb e = absurd fb
 same_write hook (Write to packet) (Write other bytes) fa fb e =
     let hooks : to ≡ other = fa.0 ∙ sym fb.0 in
     let lines : write_front ++ (word other ++ number_words packet) ≡ write_front ++ (word other ++ number_words bytes) = sym (ap (λ (t : List ℕ). write_front ++ (word t ++ number_words packet)) hooks) ∙ e in
@@ -58,6 +57,8 @@ same_write hook (Write to packet) (Write other bytes) fa fb e =
     let numbers = append_cancel_left (word other) (number_words packet) (number_words bytes) words in
     let packets = same_bytes packet bytes fa.2 fb.2 numbers in
     cc (hooks, packets)
+same_write hook (Write to packet) _ fa fb e = absurd fb
+same_write hook _ b fa fb e = absurd fa
 
 same_what : (before : List Command) (a b : What) → MayFollow before a → MayFollow before b → line_text a ≡ line_text b → a ≡ b
 same_what [] a b fa fb e = same_echo a b fa fb e

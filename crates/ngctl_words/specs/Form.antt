@@ -1,17 +1,18 @@
 -- Which commands a script may have: one that makes an echo node, and then writes to its hook.
-use Rattle.std.specs.Prelude.{◌≡◌, ℕ, ◌+◌, ◌<◌, ◌≤◌, List, [], ◌∷◌, length}
+use Rattle.std.specs.Prelude.{◌≡◌, ℕ, ◌+◌, ◌<◌, ◌≤◌, List, [], ◌∷◌, length, Some, codes}
 use Rattle.std.specs.List.{AllByRecursion}
 use Rattle.ng_base.specs.declared.kind.Kind.TheVariants.{Echo}
+use Rattle.ng_base.specs.Kind.{kind_text}
 use Rattle.ng_base.specs.Name.{IsName}
-use Rattle.ngctl_words.specs.declared.command.What.{What}
-use Rattle.ngctl_words.specs.declared.command.What.TheVariants.{Mkpeer, Write}
-use Rattle.ngctl_words.specs.declared.command.Command.{Command}
+use Rattle.ng_machine.specs.declared.command.What.{What}
+use Rattle.ng_machine.specs.declared.command.What.TheVariants.{Mkpeer, Write}
+use Rattle.ng_machine.specs.declared.command.Command.{Command}
 use Rattle.ngctl_words.specs.Line.{line_text, hook_of}
 
--- makes an echo node, joined by hooks that have names
+-- makes an echo node at the own node, joined by hooks that have names
 abbrev pub IsEchoMade : What → Type 0
-IsEchoMade (Mkpeer kind hook peerhook) = (kind ≡ Echo) × IsName hook × IsName peerhook
-IsEchoMade (Write hook packet) = ⊥
+IsEchoMade (Mkpeer path kind_name hook peerhook) = (path ≡ Some (codes ".")) × (kind_name ≡ kind_text Echo) × IsName hook × IsName peerhook
+IsEchoMade _ = ⊥
 
 -- each is a byte
 abbrev pub AreBytes : List ℕ → Type 0
@@ -19,8 +20,8 @@ AreBytes bytes = AllByRecursion (λ byte. byte < 256) bytes
 
 -- writes one byte or more to `hook`
 abbrev pub IsWriteTo : List ℕ → What → Type 0
-IsWriteTo hook (Mkpeer kind ours theirs) = ⊥
-IsWriteTo hook (Write to packet) = (to ≡ hook) × (0 < length packet) × AreBytes packet
+IsWriteTo hook (Write to bytes) = (to ≡ hook) × (0 < length bytes) × AreBytes bytes
+IsWriteTo hook _ = ⊥
 
 -- first the echo node, then writes to the same hook
 abbrev pub IsEchoThenWrites : List Command → Type 0
@@ -44,10 +45,10 @@ pub record IsInForm (commands : List Command) : Type 0 where
   pub lines : AllByRecursion IsLine commands
   pub order : IsEchoThenWrites commands
 
--- a packet of at most 2,048 bytes
+-- writes no packet, or one of at most 2,048 bytes
 abbrev pub IsPacketShort : What → Type 0
-IsPacketShort (Mkpeer kind hook peerhook) = Unit {0}
-IsPacketShort (Write hook packet) = length packet ≤ 2048
+IsPacketShort (Write hook bytes) = length bytes ≤ 2048
+IsPacketShort _ = Unit {0}
 
 abbrev pub EveryPacketFits : List Command → Type 0
 EveryPacketFits commands = AllByRecursion (λ command. IsPacketShort command.what) commands

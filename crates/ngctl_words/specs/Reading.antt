@@ -2,8 +2,8 @@
 use Rattle.std.specs.Prelude.{◌≡◌, ◌≢◌, ℕ, ◌+◌, ◌/◌, ◌%◌, ◌<◌, ◌≤◌, List, [], ◌∷◌, ◌++◌, length, Option, MatchOption}
 use Rattle.std.specs.List.{AllByRecursion}
 use Rattle.std.specs.Fmt.{decimal}
-use Rattle.ngctl_words.specs.declared.command.What.{What}
-use Rattle.ngctl_words.specs.declared.command.Command.{Command}
+use Rattle.ng_machine.specs.declared.command.What.{What}
+use Rattle.ng_machine.specs.declared.command.Command.{Command}
 use Rattle.ngctl_words.specs.declared.fault.ScriptFault.{ScriptFault}
 use Rattle.ngctl_words.specs.declared.fault.ScriptFault.TheVariants.{Unbuilt, NoMemory}
 use Rattle.ngctl_words.specs.Line.{word, number_words, line_text, hook_of}

@@ -1,7 +1,7 @@
 -- Which bytes are which script, and which line is the first that none can have.
 use Rattle.std.specs.Prelude.{◌≡◌, ◌≢◌, ℕ, ◌+◌, ◌==◌, List, [], ◌∷◌, ◌++◌, length, if◌then◌else◌}
 use Rattle.std.specs.List.{flat_map}
-use Rattle.ngctl_words.specs.declared.command.Command.{Command}
+use Rattle.ng_machine.specs.declared.command.Command.{Command}
 use Rattle.ngctl_words.specs.declared.fault.ScriptFault.{ScriptFault}
 use Rattle.ngctl_words.specs.declared.fault.ScriptFault.TheVariants.{Unbuilt, NoMemory}
 use Rattle.ngctl_words.specs.Form.{IsInForm}

@@ -1,6 +1,6 @@
 // What holds of scripts whatever reads them.
 ghost use Rattle.std.specs.Prelude.{◌≡◌, ℕ, List};
-ghost use Rattle.ngctl_words.specs.declared.command.Command.{Command};
+ghost use Rattle.ng_machine.specs.declared.command.Command.{Command};
 ghost use Rattle.ngctl_words.specs.Form.{IsInForm, EveryPacketFits};
 ghost use Rattle.ngctl_words.specs.Script.{IsScript, IsUnbuilt};
 

@@ -4,7 +4,6 @@
 //! ngctl(8). The form is exact to the byte.
 #![tactic(auto)]
 
-mod command;
 mod fault;
 mod laws;
 mod lines;
@@ -14,7 +13,6 @@ mod script;
 mod tests;
 mod words;
 
-pub use command::{Command, What};
 pub use fault::ScriptFault;
 pub use laws::{one_fault, one_reading, read_or_unbuilt, short_packets};
 pub use reading::read_script;

@@ -1,12 +1,15 @@
 // The lines of a script, each by itself.
-ghost use Rattle.std.specs.Prelude.{◌≡◌, ◌↔◌, IsTrue, codes, IfOk, MatchOption, MatchResult};
+ghost use Rattle.std.specs.Prelude.{◌≡◌, ◌↔◌, IsTrue, codes, Some, IfOk, MatchOption, MatchResult};
 ghost use Rattle.ng_base.specs.Name.{IsName};
+ghost use Rattle.ng_machine.specs.declared.command.What.TheVariants.{Mkpeer};
+ghost use Rattle.ngctl_words.specs.Line.{hook_of};
 ghost use Rattle.ngctl_words.specs.Form.{IsEchoMade, IsWriteTo, IsInForm};
 ghost use Rattle.ngctl_words.specs.Reading.{Finds, IsLineOf, MayFollow, IsNextLine, IsStopped};
 
+use crate::ScriptFault;
 use crate::words::{after_prefix, next_word, read_bytes, split_before};
-use crate::{Command, ScriptFault, What};
-use ng_base::{Bytes, Kind, Name, NoMemory, Packet};
+use ng_base::{Bytes, Kind, Name, NoMemory};
+use ng_machine::{Command, What};
 use std::alloc::Global;
 
 const MAX_LINES: usize = 4096;
@@ -25,9 +28,9 @@ fn is_echo(word: &[u8]) -> bool
     word == Kind::Echo.text().as_bytes()
 }
 
-/// Reads `mkpeer . echo HOOK PEERHOOK`.
-fn read_mkpeer(line: &[u8]) -> Option<What>
-    ensures { Finds (IsLineOf IsEchoMade line.now) result }
+/// The last three words of `mkpeer . echo HOOK PEERHOOK`.
+fn echo_words(line: &[u8]) -> Option<(Name, Name, Name)>
+    ensures { Finds (λ words. IsLineOf IsEchoMade line.now (Mkpeer (Some (codes ".")) words.0 words.1 words.2)) result }
 {
     let rest = after_prefix(line, b"mkpeer .")?;
     let (kind, rest) = next_word(rest)?;
@@ -36,11 +39,23 @@ fn read_mkpeer(line: &[u8]) -> Option<What>
     if !is_echo(kind) || !rest.is_empty() {
         return None;
     }
-    Some(What::Mkpeer {
-        kind: Kind::Echo,
-        hook: read_name(hook)?,
-        peerhook: read_name(peerhook)?,
-    })
+    Some((read_name(kind)?, read_name(hook)?, read_name(peerhook)?))
+}
+
+/// Reads `mkpeer . echo HOOK PEERHOOK`.
+fn read_mkpeer(alloc: Global, line: &[u8]) -> Result<Option<What>, NoMemory>
+    ensures { IfOk result (Finds (IsLineOf IsEchoMade line.now)) }
+{
+    let Some((kind_name, hook, peerhook)) = echo_words(line) else {
+        return Ok(None);
+    };
+    let path = Bytes(Vec::from_slice(alloc, b".")?);
+    Ok(Some(What::Mkpeer {
+        path: Some(path),
+        kind_name,
+        hook,
+        peerhook,
+    }))
 }
 
 fn is_word_of(word: &[u8], name: &Name) -> bool
@@ -68,17 +83,29 @@ fn read_write(alloc: Global, line: &[u8], hook: &Name) -> Result<Option<What>, N
     };
     Ok(Some(What::Write {
         hook: *hook,
-        packet: Packet::new(alloc, bytes.as_slice())?,
+        bytes: Bytes(bytes),
     }))
+}
+
+/// The hook of the node that commands come from, which `mkpeer . echo HOOK PEERHOOK` names.
+fn made_hook(what: &What) -> &Name
+    requires { IsEchoMade what.now }
+    ensures { result.now ≡ hook_of what.now }
+{
+    match what {
+        What::Mkpeer { hook, .. } => hook,
+        _ => unreachable!(),
+    }
 }
 
 /// Reads a line behind the commands `before`.
 fn read_line(alloc: Global, before: &[Command], line: &[u8]) -> Result<Option<What>, NoMemory>
+    requires { IsInForm before.now }
     ensures { IfOk result (Finds (IsLineOf (MayFollow before.now) line.now)) }
 {
     match before.first() {
-        None => Ok(read_mkpeer(line)),
-        Some(first) => read_write(alloc, line, first.what.hook()),
+        None => read_mkpeer(alloc, line),
+        Some(first) => read_write(alloc, line, made_hook(&first.what)),
     }
 }
 

@@ -1,5 +1,5 @@
 // The commands of a script, in order.
-use crate::Command;
+use ng_machine::Command;
 use std::marker::Model;
 
 /// The commands of a script. A contract sees it as the list of its commands, whose numbers are 1, 2
@@ -11,7 +11,7 @@ pub struct Script {
 
 impl Model for Script {
     ghost use Rattle.std.specs.Prelude.{List};
-    ghost use Rattle.ngctl_words.specs.declared.command.Command.{Command};
+    ghost use Rattle.ng_machine.specs.declared.command.Command.{Command};
 
     ghost Value = { List Command };
 

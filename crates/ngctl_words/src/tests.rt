@@ -1,6 +1,6 @@
 // Tables of scripts: what is read, and which line is the first that is wrong.
-use crate::{Command, Script, ScriptFault, What, read_script};
-use ng_base::Kind;
+use crate::{Script, ScriptFault, read_script};
+use ng_machine::{Command, What};
 use std::alloc::AllocError;
 use std::process::Abort;
 use std::test::Fail;
@@ -12,8 +12,8 @@ fn packet_to<'a>(command: &'a Command, hook: &[u8]) -> Option<&'a [u8]> {
     match &command.what {
         What::Write {
             hook: written,
-            packet,
-        } if written.bytes() == hook => Some(packet.bytes()),
+            bytes,
+        } if written.bytes() == hook => Some(bytes.0.as_slice()),
         _ => None,
     }
 }
@@ -21,11 +21,17 @@ fn packet_to<'a>(command: &'a Command, hook: &[u8]) -> Option<&'a [u8]> {
 fn makes_echo(command: &Command, hook: &[u8], peerhook: &[u8]) -> bool {
     match &command.what {
         What::Mkpeer {
-            kind,
+            path: Some(path),
+            kind_name,
             hook: ours,
             peerhook: theirs,
-        } => *kind == Kind::Echo && ours.bytes() == hook && theirs.bytes() == peerhook,
-        What::Write { .. } => false,
+        } => {
+            path.0.as_slice() == b".".as_slice()
+                && kind_name.as_str() == "echo"
+                && ours.bytes() == hook
+                && theirs.bytes() == peerhook
+        }
+        _ => false,
     }
 }
 
@@ -57,12 +63,10 @@ fn commands_are_read_in_order(rt: HostRuntime) -> Result<(), Fail> {
         return Err(Fail::from("three commands are wanted"));
     };
     assert!(rt; makes_echo(first, b"link0", b"[peer]"));
-    assert_eq!(rt; first.what.hook().as_str(), "link0");
     assert_eq!(rt;
         packet_to(second, b"link0"),
         Some([0, 9, 10, 99].as_slice())
     );
-    assert_eq!(rt; second.what.hook().as_str(), "link0");
     assert_eq!(rt;
         packet_to(third, b"link0"),
         Some([100, 199, 200, 255].as_slice())

@@ -3,7 +3,7 @@ use Rattle.std.proofs.Common.{arith, ◌≡◌, ℕ, zero, suc, ◌+◌, All, Li
 use Rattle.ng_base.specs.declared.kind.Kind.{Kind}
 use Rattle.std.proofs.lemmas.List.Elements.{All-push}
 use Rattle.ng_base.specs.declared.kind.Kind.TheVariants.{Socket, Echo}
-use Rattle.ng_node.specs.State.{State, kind_of, blank_of}
+use Rattle.ng_machine.specs.State.{State, kind_of, blank_of}
 
 -- each is blank; the first is a socket, and so many echoes stand behind it
 pub record IsStocked {X : Type 0} (state : X → State) (echoes : ℕ) (stock : List X) : Type 0 where

@@ -6,6 +6,7 @@ use Rattle.ng_base.specs.declared.kind.Kind.{Kind}
 use Rattle.ng_base.specs.declared.kind.Kind.TheVariants.{Socket, Echo}
 use Rattle.ng_outside.specs.Count.{Rose}
 use Rattle.ng_outside.specs.Write.{AppendsFront}
+use Rattle.ng_core.specs.Going.{Messages}
 use Rattle.ng_run.specs.declared.ended.Fault.{Fault}
 use Rattle.ng_run.specs.declared.ended.Fault.TheVariants.{NoMemory}
 use Rattle.ng_run.specs.Ends.{Heard, Silent, EndsBy, status_of}
@@ -28,11 +29,11 @@ abbrev pub Tells : Option Fault → Option (List ℕ) → Heard → Type 0
 Tells None script errors = Silent errors
 Tells (Some fault) script errors = TellsFault fault script errors
 
--- the call ran, ended as it may, and its fault was told
+-- the call ran, ended as it may, in whichever way messages are read, and its fault was told
 pub record IsRan (script : Option (List ℕ)) (held : List ℕ → Option (List ℕ)) (before after : List ℕ → ℕ) (sink errors : Heard) (status : ℕ) : Type 0 where
   pub journal : List Event
   pub fault : Option Fault
-  pub ends : EndsBy stocked script held before after sink status journal fault
+  pub ends : (messages : Messages) → EndsBy messages stocked script held before after sink status journal fault
   pub told : Tells fault script errors
 
 -- there was no memory for the nodes: nothing was written, and that was told

@@ -1,5 +1,6 @@
 // The nodes that commands may make, and the run with them.
 ghost use Rattle.std.specs.Prelude.{◌≡◌, map, string_bytes, IfOk, OnErr};
+ghost use Rattle.ng_core.specs.Going.{Messages};
 ghost use Rattle.ng_run.specs.Words.{script_name};
 ghost use Rattle.ng_run.specs.Ends.{EndsBy};
 ghost use Rattle.ngrun.specs.Program.{stocked};
@@ -23,7 +24,7 @@ pub fn run<F: Files, O: Sink>(
     files: &mut F,
     out: &mut O,
 ) -> Result<Ended, NoMemory>
-    ensures ends { IfOk result (λ ended. EndsBy stocked (script_name (map (λ word. string_bytes word) words.now)) (F.held files.old) (F.faults files.old) (F.faults files.new)
+    ensures ends { IfOk result (λ ended. (messages : Messages) → EndsBy messages stocked (script_name (map (λ word. string_bytes word) words.now)) (F.held files.old) (F.faults files.old) (F.faults files.new)
         (record { old = O.held out.old; now = O.held out.new; before = O.faults out.old; after = O.faults out.new }) ended.status ended.journal.items ended.fault) }
     ensures silent { OnErr result (O.held out.new ≡ O.held out.old) }
     ensures unread { OnErr result (F.faults files.new ≡ F.faults files.old) }

@@ -1,6 +1,8 @@
 // Runs that go well, and the text of each.
-use super::over::{ECHO, ECHO_TEXT, ROOM, check_text, feeds, file, run, run_bytes, sink};
+use super::over::{ECHO, ECHO_TEXT, ROOM, check_text, feeds, file, run, run_bytes, sink, words_of};
+use crate::run_words;
 use ng_base::{Event, ItemId};
+use ng_node::blank_socket;
 use ng_outside::{StdFiles, StdSink};
 use std::alloc::{AllocError, Global};
 use std::test::Fail;
@@ -36,6 +38,17 @@ summary: fed 1 of 1, applied 1, data refused 0
 dropped: node gone 0, hook gone 0, budget 0
 lost: no peer 0, node gone 0, full 0, spool 0
 graph: nodes 2, hooks 2
+";
+
+// With no echo left the node isn't made, and its hook isn't there to write to: ENFILE and ENOTCONN of errno(2).
+const REFUSED_TEXT: &str = "+ mkpeer . echo a b
+error 23: Too many open files in system
++ write a 1 2 3
+error 57: Socket is not connected
+summary: fed 2 of 2, applied 1, data refused 0
+dropped: node gone 0, hook gone 0, budget 0
+lost: no peer 0, node gone 0, full 0, spool 0
+graph: nodes 1, hooks 0
 ";
 
 const MOST_WRITES_END: &str = "+ write a 7
@@ -209,5 +222,18 @@ fn a_real_script_is_run_into_a_writer(rt: HostRuntime) -> Result<(), Fail> {
     assert_eq!(rt; ended.status, 0);
     assert_eq!(rt; ended.journal.len(), 8);
     assert_eq!(rt; kept.as_slice(), ECHO_TEXT.as_bytes());
+    Ok(())
+}
+
+#[test]
+fn refusals_are_told(rt: HostRuntime) -> Result<(), Fail> {
+    let alloc = rt.alloc();
+    let words = words_of(alloc, &["script"])?;
+    let mut files = file(alloc, ECHO.as_bytes(), false, 0)?;
+    let mut out = sink(alloc, ROOM, false, 0)?;
+    let mut stock = Vec::new(alloc);
+    stock.push(blank_socket(alloc)?)?;
+    let ended = run_words(alloc, &words, &mut files, &mut out, stock);
+    check_text(&rt, &ended, &out, REFUSED_TEXT);
     Ok(())
 }

@@ -1,4 +1,4 @@
-use Rattle.ng_node.specs.State.{kind_of}
+use Rattle.ng_machine.specs.State.{kind_of}
 use Rattle.ng_core.proofs.Stocked.{place_if_some, place_if_none}
 use Rattle.ng_core.proofs.stock.place_of.Goals as goal
 

@@ -1,6 +1,5 @@
 use Rattle.std.proofs.Common.{◌≢◌, length, arith}
 use Rattle.std.proofs.lemmas.Bool.Decides.{nat_tests}
-use Rattle.ngctl_words.specs.Reading.{IsNumbers}
 use Rattle.ngctl_words.proofs.LineParts.{write_line_of, behind_write, behind_to, some_text, write_read}
 use Rattle.ngctl_words.proofs.lines.read_write.Goals as goal
 use Rattle.ngctl_words.proofs.lines.read_write.Goals.{then-not-is_word_of-via-then-not-is_word_of, then-not-is_word_of-via-else-not-is_word_of+then-is_empty}
@@ -24,5 +23,4 @@ returns c =
     let same = c.is_word_of.ensures.same.0 (grind (arith, nat_tests)) in
     let some : length c.in-Some-next_word.numbers.now ≢ 0 = grind (arith, nat_tests) in
     let found = rw c.in-Some-2.is at c.in_ok-bytes.ensures in
-    let packet : IsNumbers c.in-Some-next_word.numbers.now c.in_ok-new.field-0 = rw (c.in_ok-new.ensures, c.as_slice.ensures.value) found in
-    write_read _ _ _ _ _ _ c.in-Some.ensures c.in-Some-next_word.ensures same some packet
+    write_read _ _ _ _ _ _ c.in-Some.ensures c.in-Some-next_word.ensures same some found

@@ -1,7 +1,10 @@
 -- One more blank echo leaves it so.
-use Rattle.std.proofs.Common.{◌≡◌, ap, subst, sym, ◌∙◌}
-use Rattle.ng_base.specs.declared.kind.Kind.TheVariants.{Echo}
-use Rattle.ng_node.specs.State.{blank_of}
+use Rattle.std.proofs.Common.{◌≡◌, ℕ, List, ◌∷◌, map, replicate, string_bytes, ap, subst, sym, ◌∙◌, arith}
+use Rattle.ng_base.specs.declared.kind.Kind.{Kind}
+use Rattle.ng_base.specs.declared.kind.Kind.TheVariants.{Echo, Socket}
+use Rattle.ng_machine.specs.State.{blank_of}
+use Rattle.ng_run.specs.Ends.{Heard, EndsBy}
+use Rattle.ng_run.specs.Words.{script_name}
 use Rattle.ngrun.proofs.Stocks.{one_more}
 use Rattle.ngrun.proofs.stock.run.OwnLists.{own-1, at-1-2}
 use Rattle.ngrun.proofs.stock.run.Goals as goal
@@ -14,3 +17,12 @@ loop-preserved g c =
     rw c.in_ok-push-2.ensures.items (one_more _ _ _ _ c.loop.invariant
     (subst (λ i. (y : (own-1.entry i).0.Denot) → (own-1.entry i).0.coded.code y ≡ (own-1.entry at-1-2).0.coded.code boxed → (own-1.entry i).1.state y ≡ blank_of Echo) (sym made.index)
     (λ y same. ap (own-1.entry at-1-2).1.state ((own-1.entry at-1-2).0.coded.inj y boxed same) ∙ is_echo) _ made.codes))
+
+pub returns-clause-ends : goal.returns-clause-ends
+returns-clause-ends g c = λ messages.
+    let all : c.loop.counter ≡ 256 = omega (arith, c.loop-test.false, c.loop.auto.counter-end) in
+    let kinds = c.loop.invariant.kinds ∙ ap (λ (n : ℕ). let l : List Kind = Socket ∷ replicate n Echo in l) all in
+    let sink : Heard = record { old = g.O.Sink.held c.args.out.now; now = g.O.Sink.held c.ngrun.new.out; before = g.O.Sink.faults c.args.out.now; after = g.O.Sink.faults c.ngrun.new.out } in
+    let name = script_name (map (λ word. string_bytes word) c.args.words.now) in
+    subst (λ (l : List Kind). EndsBy messages l name (g.F.Files.held c.args.files.now) (g.F.Files.faults c.args.files.now) (g.F.Files.faults c.ngrun.new.files) sink c.ngrun.result.status c.ngrun.result.journal.items c.ngrun.result.fault)
+    kinds (c.ngrun.ensures.ends messages)

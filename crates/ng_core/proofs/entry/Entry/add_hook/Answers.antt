@@ -1,6 +1,5 @@
 -- The node has the names of the hooks, so it lacks what they lack.
-use Rattle.std.proofs.Common.{◌≡◌, false, sym, ◌∙◌}
-use Rattle.ng_base.specs.Names.{has_name}
+use Rattle.std.proofs.Common.{◌∙◌}
 use Rattle.ng_core.proofs.Hooked.{named_is_found}
 use Rattle.ng_core.proofs.entry.Entry.add_hook.Goals as goal
 

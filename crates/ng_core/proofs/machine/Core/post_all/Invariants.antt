@@ -1,7 +1,7 @@
 -- What is left to send leads to the same world, and there is room for it.
 use Rattle.std.proofs.Common.{◌≡◌, ◌+◌, ◌^◌, ◌<◌, length}
-use Rattle.ng_core.specs.Change.{changed}
-use Rattle.ng_core.specs.Effect.{posts}
+use Rattle.ng_machine.specs.Change.{changed}
+use Rattle.ng_machine.specs.Effect.{posts}
 use Rattle.ng_core.specs.Numbers.{made}
 use Rattle.ng_core.proofs.machine.Core.post_all.Given as goal
 

@@ -1,6 +1,6 @@
 use Rattle.std.proofs.Common.{◌≡◌, ◌≤◌, ◌-◌, length, sym, ap, ◌∙◌, arith}
 use Rattle.ngctl_words.specs.Script.{line_of}
-use Rattle.ngctl_words.specs.declared.command.Command.{Command}
+use Rattle.ng_machine.specs.declared.command.Command.{Command}
 use Rattle.ngctl_words.proofs.Places.{line_below, line_above, line_of_place}
 use Rattle.ngctl_words.proofs.script.Script.line.Goals as goal
 
