@@ -16,7 +16,7 @@ use Rattle.ng_pcap.specs.Format.{either_order, format_of, magic_of, number, numb
 use Rattle.ng_pcap.specs.Reading.{head_of, rest_of_head}
 use Rattle.ng_pcap.specs.Spelling.{Head, Entry, HasSpelling, IsCut, IsEntry, IsTooLong, entries_bytes, entry_bytes, head_bytes}
 
-abbrev IsBytes : List ℕ → Type 0
+abbrev pub IsBytes : List ℕ → Type 0
 IsBytes bytes = (i : ℕ) → slice_index bytes i < 256
 
 IsBytes-drop : (n : ℕ) (bytes : List ℕ) → IsBytes bytes → IsBytes (drop n bytes)
@@ -32,7 +32,7 @@ two_bytes : (endian : Endian) (bytes : List ℕ) → 2 ≤ length bytes → IsBy
 two_bytes Big bytes long fits = grind (arith, common_steps)
 two_bytes Little bytes long fits = grind (arith, common_steps)
 
-four_bytes : (endian : Endian) (bytes : List ℕ) → 4 ≤ length bytes → IsBytes bytes → number_bytes endian 4 (number endian 4 0 bytes) ≡ take 4 bytes
+pub four_bytes : (endian : Endian) (bytes : List ℕ) → 4 ≤ length bytes → IsBytes bytes → number_bytes endian 4 (number endian 4 0 bytes) ≡ take 4 bytes
 four_bytes Big bytes long fits = grind (arith, common_steps)
 four_bytes Little bytes long fits = grind (arith, common_steps)
 
@@ -177,7 +177,7 @@ magic_by_tests false false magic resolution micros nanos e = absurd (cc e)
 magic_from : (magic : ℕ) (resolution : Resolution) → resolution_of magic ≡ Some resolution → magic ≡ magic_of resolution
 magic_from magic resolution e = magic_by_tests _ _ magic resolution refl refl e
 
-either_order-magic : (bytes : List ℕ) (big little : Option Resolution) (format : Format) → resolution_of (number Big 4 0 bytes) ≡ big → resolution_of (number Little 4 0 bytes) ≡ little
+pub either_order-magic : (bytes : List ℕ) (big little : Option Resolution) (format : Format) → resolution_of (number Big 4 0 bytes) ≡ big → resolution_of (number Little 4 0 bytes) ≡ little
     → either_order big little ≡ Some format → number format.endian 4 0 bytes ≡ magic_of format.resolution
 either_order-magic bytes (Some resolution) little format is_big is_little e =
     let same : record { endian = Big; resolution = resolution } ≡ format = cc e in

@@ -1,4 +1,5 @@
 pub mod Found
+pub mod Heads
 pub mod Packets
 pub mod Spelled
 pub mod Whole

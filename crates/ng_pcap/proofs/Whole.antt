@@ -70,7 +70,7 @@ unfolding capture_of
 capture_takes_none bytes h =
     bound_takes_none (head_of bytes) (λ format. packets (length bytes) format 24 (drop 24 bytes)) (head_takes_none bytes) (λ format. packets_take_none (length bytes) format 24 (drop 24 bytes)) h
 
-capture_of-fault : (bytes : List ℕ) (fault : CaptureFault) → head_of bytes ≡ Err fault → capture_of bytes ≡ Err fault
+pub capture_of-fault : (bytes : List ℕ) (fault : CaptureFault) → head_of bytes ≡ Err fault → capture_of bytes ≡ Err fault
 unfolding capture_of
 capture_of-fault bytes fault h = rw h refl
 

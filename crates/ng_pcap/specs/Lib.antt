@@ -1,4 +1,5 @@
 pub mod Format
+pub mod Heads
 pub mod Laws
 pub mod Reading
 pub mod Spelling
