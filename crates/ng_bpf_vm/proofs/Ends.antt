@@ -7,12 +7,12 @@ use Rattle.ng_bpf_vm.specs.declared.operation.Operation.TheVariants.{LoadAbsolut
 use Rattle.ng_bpf_vm.specs.declared.machine.Registers.{Registers}
 use Rattle.ng_bpf_vm.specs.declared.validity.Fault.TheVariants.{BadWord}
 use Rattle.ng_bpf_vm.specs.Codes.{operation_of}
-use Rattle.ng_bpf_vm.specs.Effects.{Effect, Goes, Answers, Stuck, loaded, computed, operand_value, take_loaded, take_header_length, effect, cleared, insn_effect}
+use Rattle.ng_bpf_vm.specs.Effects.{Effect, Goes, Answers, Stuck, value_at, result_of, operand_value, take_value, take_header_length, effect, blank_registers, insn_effect}
 use Rattle.ng_bpf_vm.specs.Machine.{follow, answer_after, outcome, lone_return}
 use Rattle.ng_bpf_vm.specs.Validity.{operation_fault, EachIsRight, ends_in_return, IsValid}
 use Rattle.ng_bpf_vm.proofs.Runs.{fault_of, passed, lands, ends_there}
 
-loaded_goes : (value : Option ℕ) (r : Registers) → take_loaded value r ≡ Stuck → ⊥
+loaded_goes : (value : Option ℕ) (r : Registers) → take_value value r ≡ Stuck → ⊥
 loaded_goes None r e = absurd cc
 loaded_goes (Some value) r e = absurd cc
 
@@ -27,14 +27,14 @@ word_goes false r h e = absurd cc
 -- an operation in order can be obeyed
 never_stuck : (o : Operation) (after : ℕ) (packet : List ℕ) (r : Registers) → operation_fault o after ≡ None → effect o packet r ≡ Stuck → ⊥
 unfolding effect
-never_stuck (LoadAbsolute size at) after packet r right e = loaded_goes (loaded size packet at) r e
+never_stuck (LoadAbsolute size at) after packet r right e = loaded_goes (value_at size packet at) r e
 never_stuck (LoadIndirect size at) after packet r right e = loaded_goes _ r e
 never_stuck (LoadMemory word) after packet r right e = word_goes (nat_lt word 16) _ (passed (nat_lt word 16) BadWord right) e
 never_stuck (IndexMemory word) after packet r right e = word_goes (nat_lt word 16) _ (passed (nat_lt word 16) BadWord right) e
 never_stuck (IndexHeaderLength at) after packet r right e = index_goes _ r e
 never_stuck (Store word) after packet r right e = word_goes (nat_lt word 16) _ (passed (nat_lt word 16) BadWord right) e
 never_stuck (StoreIndex word) after packet r right e = word_goes (nat_lt word 16) _ (passed (nat_lt word 16) BadWord right) e
-never_stuck (Compute arithmetic operand) after packet r right e = loaded_goes (computed arithmetic r.accumulator (operand_value operand r.index)) r e
+never_stuck (Compute arithmetic operand) after packet r right e = loaded_goes (result_of arithmetic r.accumulator (operand_value operand r.index)) r e
 never_stuck (LoadConstant k) after packet r right e = absurd cc
 never_stuck LoadLength after packet r right e = absurd cc
 never_stuck (IndexConstant k) after packet r right e = absurd cc
@@ -48,23 +48,31 @@ never_stuck AccumulatorToIndex after packet r right e = absurd cc
 never_stuck IndexToAccumulator after packet r right e = absurd cc
 
 -- an instruction in order has an operation, which is in order
-some_operation : (found : Option Operation) (after : ℕ) → fault_of found after ≡ None → (o : Operation) × (found ≡ Some o) × (operation_fault o after ≡ None)
+some_operation : (found : Option Operation) (after : ℕ) → fault_of found after ≡ None
+    → (o : Operation) × (found ≡ Some o) × (operation_fault o after ≡ None)
 some_operation None after right = absurd cc
 some_operation (Some o) after right = (o, refl, right)
 
 -- what an instruction's effect comes to, where those after it end with an answer
-follow_ends : (i : Insn) (rest : List Insn) (packet : List ℕ) (r : Registers) (o : Operation) → operation_of i ≡ Some o → operation_fault o (length rest) ≡ None → ((over : ℕ) (r' : Registers) → effect o packet r ≡ Goes over r' → IsSome (answer_after rest packet over r')) → (e : Effect) → effect o packet r ≡ e → IsSome (follow e (answer_after rest packet))
+follow_ends : (i : Insn) (rest : List Insn) (packet : List ℕ) (r : Registers) (o : Operation)
+    → operation_of i ≡ Some o → operation_fault o (length rest) ≡ None
+    → ((over : ℕ) (r' : Registers) → effect o packet r ≡ Goes over r' → IsSome (answer_after rest packet over r'))
+    → (e : Effect) → effect o packet r ≡ e → IsSome (follow e (answer_after rest packet))
 follow_ends i rest packet r o is_o right on (Goes over r') e = on over r' e
 follow_ends i rest packet r o is_o right on (Answers answer) e = refl
 follow_ends i rest packet r o is_o right on Stuck e = absurd (never_stuck o (length rest) packet r right e)
 
-insn_ends : (i : Insn) (rest : List Insn) (packet : List ℕ) (r : Registers) (o : Operation) → operation_of i ≡ Some o → operation_fault o (length rest) ≡ None → ((over : ℕ) (r' : Registers) → effect o packet r ≡ Goes over r' → IsSome (answer_after rest packet over r')) → IsSome (follow (insn_effect i packet r) (answer_after rest packet))
+insn_ends : (i : Insn) (rest : List Insn) (packet : List ℕ) (r : Registers) (o : Operation)
+    → operation_of i ≡ Some o → operation_fault o (length rest) ≡ None
+    → ((over : ℕ) (r' : Registers) → effect o packet r ≡ Goes over r' → IsSome (answer_after rest packet over r'))
+    → IsSome (follow (insn_effect i packet r) (answer_after rest packet))
 insn_ends i rest packet r o is_o right on =
     let same : effect o packet r ≡ insn_effect i packet r = sym (ap (λ x. elim x [ None ↦ Stuck | Some operation ↦ effect operation packet r ]) is_o) in
     follow_ends i rest packet r o is_o right on (insn_effect i packet r) same
 
 -- instructions in order, the last of which ends the program, end with an answer
-ends : (insns : List Insn) (packet : List ℕ) (over : ℕ) (r : Registers) → EachIsRight insns → IsTrue (ends_in_return insns) → over < length insns → IsSome (answer_after insns packet over r)
+ends : (insns : List Insn) (packet : List ℕ) (over : ℕ) (r : Registers) → EachIsRight insns
+    → IsTrue (ends_in_return insns) → over < length insns → IsSome (answer_after insns packet over r)
 ends [] packet over r each last here = absurd (omega arith)
 ends (i ∷ []) packet zero r each last here =
     let found = some_operation (operation_of i) 0 each.0 in
@@ -79,7 +87,7 @@ ends (i ∷ j ∷ rest) packet (suc over) r each last here = ends (j ∷ rest) p
 -- a valid program ends with an answer
 pub valid_ends : (program : List Insn) (packet : List ℕ) → IsValid program → IsSome (outcome program packet)
 unfolding outcome
-valid_ends program packet valid = ends program packet 0 cleared valid.each valid.ends valid.some
+valid_ends program packet valid = ends program packet 0 blank_registers valid.each valid.ends valid.some
 
 -- the program of one instruction that returns
 pub lone_return_valid : (k : ℕ) → IsValid (lone_return k)

@@ -33,7 +33,9 @@ no_faults : (at : ℕ) (insns : List Insn) → EachIsRight insns → faults_from
 no_faults at [] right = refl
 no_faults at (i ∷ rest) right = ap (λ o. fault_list at o ++ faults_from (at + 1) rest) right.0 ∙ no_faults (at + 1) rest right.1
 
-empty_parts : {X : Type 0} (long : Bool) (x : X) (middle : List X) (ends : Bool) (y : X) → (if long then x ∷ [] else []) ++ middle ++ (if ends then [] else y ∷ []) ≡ [] → (long ≡ false) × (middle ≡ []) × (ends ≡ true)
+empty_parts : {X : Type 0} (long : Bool) (x : X) (middle : List X) (ends : Bool) (y : X)
+    → (if long then x ∷ [] else []) ++ middle ++ (if ends then [] else y ∷ []) ≡ []
+    → (long ≡ false) × (middle ≡ []) × (ends ≡ true)
 empty_parts true x middle ends y e = absurd cc
 empty_parts false x [] true y e = (refl, refl, refl)
 empty_parts false x [] false y e = absurd cc
@@ -84,14 +86,18 @@ no_faults_if_valid insns valid =
     ∙ ap (λ ends. if ends then [] else (length insns - 1, NoReturn) ∷ []) valid.ends
 
 -- the faults from a place on are those of the instruction there, and those that follow it
-faults_at : (insns : List Insn) (at : ℕ) (d : Insn) → at < length insns → faults_from at (drop at insns) ≡ fault_list at (insn_fault (get_or insns at d) (length insns - 1 - at)) ++ faults_from (at + 1) (drop (at + 1) insns)
+faults_at : (insns : List Insn) (at : ℕ) (d : Insn) → at < length insns
+    → faults_from at (drop at insns) ≡ fault_list at (insn_fault (get_or insns at d) (length insns - 1 - at)) ++ faults_from (at + 1) (drop (at + 1) insns)
 faults_at insns at d here =
     let after : length (drop (at + 1) insns) ≡ length insns - 1 - at = omega (arith, length-drop (at + 1) insns) in
     ap (faults_from at) (drop_more insns at d here)
     ∙ ap (λ n. fault_list at (insn_fault (get_or insns at d) n) ++ faults_from (at + 1) (drop (at + 1) insns)) after
 
 -- the first instruction with a fault
-pub first_of_insns : (insns : List Insn) (at : ℕ) (d : Insn) (fault : Fault) → at < length insns → length insns ≤ 512 → NoneBefore insns at → insn_fault (get_or insns at d) (length insns - 1 - at) ≡ Some fault → first_fault insns ≡ Some (at, fault)
+pub first_of_insns : (insns : List Insn) (at : ℕ) (d : Insn) (fault : Fault) → at < length insns
+    → length insns ≤ 512 → NoneBefore insns at
+    → insn_fault (get_or insns at d) (length insns - 1 - at) ≡ Some fault
+    → first_fault insns ≡ Some (at, fault)
 first_of_insns insns at d fault here few none found =
     let rest : List (ℕ × Fault) = faults_from (at + 1) (drop (at + 1) insns) in
     let all = faults_if_few insns (omega arith) few in
@@ -99,7 +105,8 @@ first_of_insns insns at d fault here few none found =
     ap (λ xs. slice_get xs 0) (all ∙ ap (λ xs. xs ++ last_fault insns) front)
 
 -- the instructions are in order, so that the fault at the end is the first
-pub first_of_end : (insns : List Insn) (at : ℕ) → 0 < length insns → length insns ≤ 512 → length insns ≤ at → NoneBefore insns at → first_fault insns ≡ slice_get (last_fault insns) 0
+pub first_of_end : (insns : List Insn) (at : ℕ) → 0 < length insns → length insns ≤ 512 → length insns ≤ at
+    → NoneBefore insns at → first_fault insns ≡ slice_get (last_fault insns) 0
 first_of_end insns at some few past none =
     let front = none ∙ ap (faults_from at) (drop_all at insns past) in
     ap (λ xs. slice_get xs 0) (faults_if_few insns some few ∙ ap (λ xs. xs ++ last_fault insns) front)
@@ -112,13 +119,17 @@ ends_last (j ∷ k ∷ rest) i e =
     ends_last (k ∷ rest) i (sym (ap (slice_get (j ∷ k ∷ rest)) place) ∙ e)
 
 -- the instructions are in order, and the last one ends the program
-pub none_of_end : (insns : List Insn) (at : ℕ) (last : Insn) → length insns ≤ 512 → length insns ≤ at → NoneBefore insns at → slice_get insns (length insns - 1) ≡ Some last → returns_answer last ≡ true → first_fault insns ≡ None
+pub none_of_end : (insns : List Insn) (at : ℕ) (last : Insn) → length insns ≤ 512 → length insns ≤ at
+    → NoneBefore insns at → slice_get insns (length insns - 1) ≡ Some last → returns_answer last ≡ true
+    → first_fault insns ≡ None
 none_of_end insns at last few past none is_last returns =
     let some : 0 < length insns = omega (arith, slice_get_within insns (length insns - 1) last is_last) in
     first_of_end insns at some few past none ∙ ap (λ ends. slice_get (if ends then [] else (length insns - 1, NoReturn) ∷ []) 0) (ends_last insns last is_last ∙ returns)
 
 -- the instructions are in order, and the last one does not end the program
-pub no_return_at_end : (insns : List Insn) (at : ℕ) (last : Insn) → length insns ≤ 512 → length insns ≤ at → NoneBefore insns at → slice_get insns (length insns - 1) ≡ Some last → returns_answer last ≡ false → first_fault insns ≡ Some (length insns - 1, NoReturn)
+pub no_return_at_end : (insns : List Insn) (at : ℕ) (last : Insn) → length insns ≤ 512 → length insns ≤ at
+    → NoneBefore insns at → slice_get insns (length insns - 1) ≡ Some last → returns_answer last ≡ false
+    → first_fault insns ≡ Some (length insns - 1, NoReturn)
 no_return_at_end insns at last few past none is_last returns =
     let some : 0 < length insns = omega (arith, slice_get_within insns (length insns - 1) last is_last) in
     first_of_end insns at some few past none ∙ ap (λ ends. slice_get (if ends then [] else (length insns - 1, NoReturn) ∷ []) 0) (ends_last insns last is_last ∙ returns)

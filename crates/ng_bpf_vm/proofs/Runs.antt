@@ -11,7 +11,7 @@ use Rattle.ng_bpf_vm.specs.declared.machine.Registers.{Registers}
 use Rattle.ng_bpf_vm.specs.declared.validity.Fault.{Fault}
 use Rattle.ng_bpf_vm.specs.declared.validity.Fault.TheVariants.{UnknownCode, JumpOut, BadWord}
 use Rattle.ng_bpf_vm.specs.Codes.{operation_of}
-use Rattle.ng_bpf_vm.specs.Effects.{Goes, Answers, Stuck, loaded, computed, compares, operand_value, take_loaded, take_header_length, effect, names_word, insn_effect, cleared}
+use Rattle.ng_bpf_vm.specs.Effects.{Goes, Answers, Stuck, value_at, result_of, compares, operand_value, take_value, take_header_length, effect, names_word, insn_effect, blank_registers}
 use Rattle.ng_bpf_vm.specs.Machine.{follow, answer_after, outcome}
 use Rattle.ng_bpf_vm.specs.Reading.{AreRead}
 use Rattle.ng_bpf_vm.specs.Validity.{unless, operation_fault, EachIsRight, returns_answer, ends_in_return, IsValid}
@@ -32,13 +32,18 @@ read_within (i ∷ rest) zero d right here = some_if_right (operation_of i) (len
 read_within (i ∷ rest) (suc at) d right here = read_within rest at d right.1 (omega arith)
 
 -- one more instruction with its operation
-read_more : (insns : List Insn) (operations : List Operation) (i : Insn) (operation : Operation) → AreRead insns operations → operation_of i ≡ Some operation → AreRead (insns ++ i ∷ []) (operations ++ operation ∷ [])
+read_more : (insns : List Insn) (operations : List Operation) (i : Insn) (operation : Operation)
+    → AreRead insns operations → operation_of i ≡ Some operation
+    → AreRead (insns ++ i ∷ []) (operations ++ operation ∷ [])
 read_more [] [] i operation read e = (e, tt)
 read_more (j ∷ insns) (o ∷ operations) i operation read e = (read.0, read_more insns operations i operation read.1 e)
 read_more [] (o ∷ operations) i operation read e = absurd read
 read_more (j ∷ insns) [] i operation read e = absurd read
 
-pub read_on : (insns : List Insn) (at : ℕ) (d : Insn) (operations : List Operation) (operation : Operation) → at < length insns → AreRead (take at insns) operations → operation_of (get_or insns at d) ≡ Some operation → AreRead (take (at + 1) insns) (operations ++ operation ∷ [])
+pub read_on : (insns : List Insn) (at : ℕ) (d : Insn) (operations : List Operation) (operation : Operation)
+    → at < length insns → AreRead (take at insns) operations
+    → operation_of (get_or insns at d) ≡ Some operation
+    → AreRead (take (at + 1) insns) (operations ++ operation ∷ [])
 read_on insns at d operations operation here read e =
     subst (λ xs. AreRead xs (operations ++ operation ∷ [])) (sym (take_more insns at d here)) (read_more (take at insns) operations (get_or insns at d) operation read e)
 
@@ -70,7 +75,7 @@ names_one _ after e = refl
 goes_next : (over : ℕ) (r r' : Registers) → Goes 0 r ≡ Goes over r' → over ≡ 0
 goes_next over r r' e = cc
 
-loaded_next : (value : Option ℕ) (over : ℕ) (r r' : Registers) → take_loaded value r ≡ Goes over r' → over ≡ 0
+loaded_next : (value : Option ℕ) (over : ℕ) (r r' : Registers) → take_value value r ≡ Goes over r' → over ≡ 0
 loaded_next None over r r' e = absurd cc
 loaded_next (Some value) over r r' e = cc
 
@@ -82,21 +87,24 @@ word_next : (here : Bool) (over : ℕ) (r r' : Registers) → (if here then Goes
 word_next true over r r' e = cc
 word_next false over r r' e = absurd cc
 
-one_of : (test : Bool) (holds fails after over : ℕ) (r r' : Registers) → IsTrue (nat_lt holds after && nat_lt fails after) → Goes (if test then holds else fails) r ≡ Goes over r' → over < after
+one_of : (test : Bool) (holds fails after over : ℕ) (r r' : Registers)
+    → IsTrue (nat_lt holds after && nat_lt fails after)
+    → Goes (if test then holds else fails) r ≡ Goes over r' → over < after
 one_of true holds fails after over r r' inside e = let same : holds ≡ over = cc in grind (arith, nat_tests)
 one_of false holds fails after over r r' inside e = let same : fails ≡ over = cc in grind (arith, nat_tests)
 
 -- an operation in order leads to the next instruction, or over fewer than there are
-pub lands : (o : Operation) (after : ℕ) (packet : List ℕ) (r : Registers) (over : ℕ) (r' : Registers) → operation_fault o after ≡ None → effect o packet r ≡ Goes over r' → (over ≡ 0) ⊎ (over < after)
+pub lands : (o : Operation) (after : ℕ) (packet : List ℕ) (r : Registers) (over : ℕ) (r' : Registers)
+    → operation_fault o after ≡ None → effect o packet r ≡ Goes over r' → (over ≡ 0) ⊎ (over < after)
 unfolding effect
-lands (LoadAbsolute size at) after packet r over r' right e = inl (loaded_next (loaded size packet at) over r r' e)
-lands (LoadIndirect size at) after packet r over r' right e = inl (loaded_next (loaded size packet (r.index + at)) over r r' e)
+lands (LoadAbsolute size at) after packet r over r' right e = inl (loaded_next (value_at size packet at) over r r' e)
+lands (LoadIndirect size at) after packet r over r' right e = inl (loaded_next (value_at size packet (r.index + at)) over r r' e)
 lands (LoadMemory word) after packet r over r' right e = inl (word_next (nat_lt word 16) over _ r' e)
 lands (IndexMemory word) after packet r over r' right e = inl (word_next (nat_lt word 16) over _ r' e)
 lands (IndexHeaderLength at) after packet r over r' right e = inl (index_next _ over r r' e)
 lands (Store word) after packet r over r' right e = inl (word_next (nat_lt word 16) over _ r' e)
 lands (StoreIndex word) after packet r over r' right e = inl (word_next (nat_lt word 16) over _ r' e)
-lands (Compute arithmetic operand) after packet r over r' right e = inl (loaded_next (computed arithmetic r.accumulator (operand_value operand r.index)) over r r' e)
+lands (Compute arithmetic operand) after packet r over r' right e = inl (loaded_next (result_of arithmetic r.accumulator (operand_value operand r.index)) over r r' e)
 lands (Jump to) after packet r over r' right e =
     let inside = passed (nat_lt to after) JumpOut right in
     let same : to ≡ over = cc in
@@ -123,7 +131,8 @@ unfolding operation_of
 accumulator_returned code jt jf k e = rw e refl
 
 -- an instruction that ends a program leads nowhere
-pub ends_there : (i : Insn) (o : Operation) (packet : List ℕ) (r : Registers) (over : ℕ) (r' : Registers) → IsTrue (returns_answer i) → operation_of i ≡ Some o → effect o packet r ≡ Goes over r' → ⊥
+pub ends_there : (i : Insn) (o : Operation) (packet : List ℕ) (r : Registers) (over : ℕ) (r' : Registers)
+    → IsTrue (returns_answer i) → operation_of i ≡ Some o → effect o packet r ≡ Goes over r' → ⊥
 unfolding effect
 ends_there i o packet r over r' returns is_o goes =
     let which : (i.code ≡ 0x06) ⊎ (i.code ≡ 0x16) = grind (arith, nat_tests) in
@@ -139,7 +148,8 @@ ends_there i o packet r over r' returns is_o goes =
     ]
 
 -- the rest of a list in order is in order
-going_drop : (n : ℕ) (insns : List Insn) (operations : List Operation) → n < length insns → Going insns operations → Going (drop n insns) (drop n operations)
+going_drop : (n : ℕ) (insns : List Insn) (operations : List Operation) → n < length insns
+    → Going insns operations → Going (drop n insns) (drop n operations)
 going_drop zero insns operations here g = g
 going_drop (suc n) [] operations here g = absurd (omega arith)
 going_drop (suc n) (i ∷ rest) [] here g = absurd g.read
@@ -154,7 +164,8 @@ same_length [] (o ∷ operations) read = absurd read
 same_length (i ∷ insns) [] read = absurd read
 
 -- instructions that are passed over have no part in the answer
-passed_over : (over : ℕ) (insns : List Insn) (packet : List ℕ) (r : Registers) → answer_after insns packet over r ≡ answer_after (drop over insns) packet 0 r
+passed_over : (over : ℕ) (insns : List Insn) (packet : List ℕ) (r : Registers)
+    → answer_after insns packet over r ≡ answer_after (drop over insns) packet 0 r
 passed_over zero insns packet r = refl
 passed_over (suc over) [] packet r = refl
 passed_over (suc over) (i ∷ rest) packet r = passed_over over rest packet r
@@ -169,7 +180,9 @@ record Goes_on (insns : List Insn) (operations : List Operation) (packet : List 
 effect_read : (i : Insn) (o : Operation) (packet : List ℕ) (r : Registers) → operation_of i ≡ Some o → insn_effect i packet r ≡ effect o packet r
 effect_read i o packet r e = ap (λ x. elim x [ None ↦ Stuck | Some operation ↦ effect operation packet r ]) e
 
-going_over : (insns : List Insn) (o : Operation) (operations : List Operation) (packet : List ℕ) (r : Registers) (over : ℕ) (r' : Registers) → Going insns (o ∷ operations) → effect o packet r ≡ Goes over r' → Goes_on insns operations packet r over r'
+going_over : (insns : List Insn) (o : Operation) (operations : List Operation) (packet : List ℕ) (r : Registers) (over : ℕ) (r' : Registers)
+    → Going insns (o ∷ operations) → effect o packet r ≡ Goes over r'
+    → Goes_on insns operations packet r over r'
 going_over [] o operations packet r over r' g goes = absurd g.read
 going_over (i ∷ []) o operations packet r over r' g goes = absurd (ends_there i o packet r over r' g.ends g.read.0 goes)
 going_over (i ∷ j ∷ rest) o operations packet r over r' g goes =
@@ -184,11 +197,14 @@ going_over (i ∷ j ∷ rest) o operations packet r over r' g goes =
     }
 
 -- the list from a place on, which is inside it
-going_at : (insns : List Insn) (operations : List Operation) (at : ℕ) (d : Operation) → at < length operations → Going (drop at insns) (drop at operations) → Going (drop at insns) (get_or operations at d ∷ drop (at + 1) operations)
+going_at : (insns : List Insn) (operations : List Operation) (at : ℕ) (d : Operation) → at < length operations
+    → Going (drop at insns) (drop at operations)
+    → Going (drop at insns) (get_or operations at d ∷ drop (at + 1) operations)
 going_at insns operations at d here g = subst (λ os. Going (drop at insns) os) (drop_more operations at d here) g
 
 -- before the first instruction
-pub running_first : (insns : List Insn) (operations : List Operation) (packet : List ℕ) → IsValid insns → AreRead insns operations → Running insns operations packet 0 cleared
+pub running_first : (insns : List Insn) (operations : List Operation) (packet : List ℕ) → IsValid insns
+    → AreRead insns operations → Running insns operations packet 0 blank_registers
 unfolding outcome
 running_first insns operations packet valid read = record {
   in_range = let some = valid.some in omega (arith, same_length insns operations read);
@@ -202,12 +218,15 @@ head_word (i ∷ rest) o operations g =
     names_one o (length rest) (sym (ap (λ x. fault_of x (length rest)) g.read.0) ∙ g.each.0)
 
 -- the operation at this place names one of the sixteen words, if it names one
-pub running_word : (insns : List Insn) (operations : List Operation) (packet : List ℕ) (at : ℕ) (r : Registers) (d : Operation) → Running insns operations packet at r → IsTrue (names_word (get_or operations at d))
+pub running_word : (insns : List Insn) (operations : List Operation) (packet : List ℕ) (at : ℕ) (r : Registers) (d : Operation)
+    → Running insns operations packet at r → IsTrue (names_word (get_or operations at d))
 running_word insns operations packet at r d run =
     head_word (drop at insns) (get_or operations at d) (drop (at + 1) operations) (going_at insns operations at d run.in_range run.going)
 
 -- the run goes on to another place
-pub running_over : (insns : List Insn) (operations : List Operation) (packet : List ℕ) (at : ℕ) (r : Registers) (d : Operation) (over : ℕ) (r' : Registers) → Running insns operations packet at r → Goes over r' ≡ effect (get_or operations at d) packet r → Running insns operations packet (at + (1 + over)) r'
+pub running_over : (insns : List Insn) (operations : List Operation) (packet : List ℕ) (at : ℕ) (r : Registers) (d : Operation) (over : ℕ) (r' : Registers)
+    → Running insns operations packet at r → Goes over r' ≡ effect (get_or operations at d) packet r
+    → Running insns operations packet (at + (1 + over)) r'
 running_over insns operations packet at r d over r' run goes =
     let on = going_over (drop at insns) (get_or operations at d) (drop (at + 1) operations) packet r over r' (going_at insns operations at d run.in_range run.going) (sym goes) in
     let insns_there : drop (suc over) (drop at insns) ≡ drop (at + (1 + over)) insns = let e : at + suc over ≡ at + (1 + over) = omega arith in drop-drop (suc over) at insns ∙ ap (λ n. drop n insns) e in
@@ -218,12 +237,16 @@ running_over insns operations packet at r d over r' run goes =
       same = sym (ap (λ is. answer_after is packet 0 r') insns_there) ∙ on.same ∙ run.same;
     }
 
-head_answer : (insns : List Insn) (o : Operation) (operations : List Operation) (packet : List ℕ) (r : Registers) (answer : ℕ) → Going insns (o ∷ operations) → effect o packet r ≡ Answers answer → answer_after insns packet 0 r ≡ Some answer
+head_answer : (insns : List Insn) (o : Operation) (operations : List Operation) (packet : List ℕ) (r : Registers) (answer : ℕ)
+    → Going insns (o ∷ operations) → effect o packet r ≡ Answers answer
+    → answer_after insns packet 0 r ≡ Some answer
 head_answer [] o operations packet r answer g e = absurd g.read
 head_answer (i ∷ rest) o operations packet r answer g e =
     ap (λ x. follow x (answer_after rest packet)) (effect_read i o packet r g.read.0 ∙ e)
 
 -- the run ends with the machine's answer
-pub running_answer : (insns : List Insn) (operations : List Operation) (packet : List ℕ) (at : ℕ) (r : Registers) (d : Operation) (answer : ℕ) → Running insns operations packet at r → Answers answer ≡ effect (get_or operations at d) packet r → outcome insns packet ≡ Some answer
+pub running_answer : (insns : List Insn) (operations : List Operation) (packet : List ℕ) (at : ℕ) (r : Registers) (d : Operation) (answer : ℕ)
+    → Running insns operations packet at r → Answers answer ≡ effect (get_or operations at d) packet r
+    → outcome insns packet ≡ Some answer
 running_answer insns operations packet at r d answer run e =
     sym run.same ∙ head_answer (drop at insns) (get_or operations at d) (drop (at + 1) operations) packet r answer (going_at insns operations at d run.in_range run.going) (sym e)

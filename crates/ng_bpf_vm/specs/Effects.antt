@@ -17,8 +17,8 @@ use Rattle.ng_bpf_vm.specs.declared.operation.Operation.TheVariants.{LoadAbsolut
 use Rattle.ng_bpf_vm.specs.Codes.{operation_of}
 
 -- the registers before the first instruction
-abbrev pub cleared : Registers
-cleared = record { accumulator = 0; index = 0; memory = replicate 16 0 }
+abbrev pub blank_registers : Registers
+blank_registers = record { accumulator = 0; index = 0; memory = replicate 16 0 }
 
 abbrev pub byte_count : Size → ℕ
 byte_count Word = 4
@@ -30,9 +30,11 @@ abbrev pub big_endian : List ℕ → ℕ
 big_endian bytes = fold (λ number byte. 256 * number + byte) 0 bytes
 
 -- the bytes of the packet from a place on, or none where they are not all there
-unfoldable pub loaded : Size → List ℕ → ℕ → Option ℕ
-loaded size packet at =
-    if nat_le (at + byte_count size) (length packet) then Some (big_endian (take (byte_count size) (drop at packet))) else None
+unfoldable pub value_at : Size → List ℕ → ℕ → Option ℕ
+value_at size packet at =
+    if nat_le (at + byte_count size) (length packet)
+    then Some (big_endian (take (byte_count size) (drop at packet)))
+    else None
 
 -- the instruction's constant, or the index register
 abbrev pub operand_value : Operand → ℕ → ℕ
@@ -40,17 +42,17 @@ operand_value (Constant k) index = k
 operand_value Index index = index
 
 -- the operators on 32 bits; there is no quotient and no remainder by 0
-unfoldable pub computed : Arithmetic → ℕ → ℕ → Option ℕ
-computed Add a b = Some ((a + b) % 2 ^ 32)
-computed Subtract a b = Some ((a + (2 ^ 32 - b)) % 2 ^ 32)
-computed Multiply a b = Some ((a * b) % 2 ^ 32)
-computed Divide a b = if nat_eq b 0 then None else Some (a / b)
-computed Or a b = Some (bit_or a b)
-computed And a b = Some (bit_and a b)
-computed ShiftLeft a b = Some (if nat_lt b 32 then (a * 2 ^ b) % 2 ^ 32 else 0)
-computed ShiftRight a b = Some (if nat_lt b 32 then a / 2 ^ b else 0)
-computed Remainder a b = if nat_eq b 0 then None else Some (a % b)
-computed Xor a b = Some (bit_xor a b)
+unfoldable pub result_of : Arithmetic → ℕ → ℕ → Option ℕ
+result_of Add a b = Some ((a + b) % 2 ^ 32)
+result_of Subtract a b = Some ((a + (2 ^ 32 - b)) % 2 ^ 32)
+result_of Multiply a b = Some ((a * b) % 2 ^ 32)
+result_of Divide a b = if nat_eq b 0 then None else Some (a / b)
+result_of Or a b = Some (bit_or a b)
+result_of And a b = Some (bit_and a b)
+result_of ShiftLeft a b = Some (if nat_lt b 32 then (a * 2 ^ b) % 2 ^ 32 else 0)
+result_of ShiftRight a b = Some (if nat_lt b 32 then a / 2 ^ b else 0)
+result_of Remainder a b = if nat_eq b 0 then None else Some (a % b)
+result_of Xor a b = Some (bit_xor a b)
 
 -- the comparisons, of numbers without sign
 unfoldable pub compares : Comparison → ℕ → ℕ → Bool
@@ -66,9 +68,9 @@ pub data Effect : Type 0 where
   Stuck : Effect
 
 -- the accumulator takes the value, or the program answers 0 where there is none
-abbrev pub take_loaded : Option ℕ → Registers → Effect
-take_loaded None r = Answers 0
-take_loaded (Some value) r = Goes 0 (record r { accumulator = value })
+abbrev pub take_value : Option ℕ → Registers → Effect
+take_value None r = Answers 0
+take_value (Some value) r = Goes 0 (record r { accumulator = value })
 
 -- the index register takes four times the byte's low four bits: the bytes of an IPv4 header that begins with the byte
 abbrev pub take_header_length : Option ℕ → Registers → Effect
@@ -81,18 +83,18 @@ if_word word e = if nat_lt word 16 then e else Stuck
 
 -- the effect of one operation
 unfoldable pub effect : Operation → List ℕ → Registers → Effect
-effect (LoadAbsolute size at) packet r = take_loaded (loaded size packet at) r
-effect (LoadIndirect size at) packet r = take_loaded (loaded size packet (r.index + at)) r
+effect (LoadAbsolute size at) packet r = take_value (value_at size packet at) r
+effect (LoadIndirect size at) packet r = take_value (value_at size packet (r.index + at)) r
 effect (LoadConstant k) packet r = Goes 0 (record r { accumulator = k })
 effect (LoadMemory word) packet r = if_word word (Goes 0 (record r { accumulator = slice_index r.memory word }))
 effect LoadLength packet r = Goes 0 (record r { accumulator = length packet % 2 ^ 32 })
 effect (IndexConstant k) packet r = Goes 0 (record r { index = k })
 effect (IndexMemory word) packet r = if_word word (Goes 0 (record r { index = slice_index r.memory word }))
 effect IndexLength packet r = Goes 0 (record r { index = length packet % 2 ^ 32 })
-effect (IndexHeaderLength at) packet r = take_header_length (loaded Byte packet at) r
+effect (IndexHeaderLength at) packet r = take_header_length (value_at Byte packet at) r
 effect (Store word) packet r = if_word word (Goes 0 (record r { memory = slice_set r.memory word r.accumulator }))
 effect (StoreIndex word) packet r = if_word word (Goes 0 (record r { memory = slice_set r.memory word r.index }))
-effect (Compute arithmetic operand) packet r = take_loaded (computed arithmetic r.accumulator (operand_value operand r.index)) r
+effect (Compute arithmetic operand) packet r = take_value (result_of arithmetic r.accumulator (operand_value operand r.index)) r
 effect Negate packet r = Goes 0 (record r { accumulator = (2 ^ 32 - r.accumulator) % 2 ^ 32 })
 effect (Jump over) packet r = Goes over r
 effect (Branch comparison operand holds fails) packet r =
@@ -109,10 +111,10 @@ insn_effect i packet r = elim (operation_of i) [
   | Some operation ↦ effect operation packet r
 ]
 
--- what a step came to: where it leads, and the registers after it
-abbrev pub came : Next → Registers → Effect
-came (Over over) r = Goes over r
-came (Answer answer) r = Answers answer
+-- the effect of a step that leads there and leaves these registers
+abbrev pub effect_of_next : Next → Registers → Effect
+effect_of_next (Over over) r = Goes over r
+effect_of_next (Answer answer) r = Answers answer
 
 -- a word that the operation names is one of the sixteen
 abbrev pub names_word : Operation → Bool

@@ -2,7 +2,7 @@
 use Rattle.std.specs.Prelude.{ℕ, zero, suc, List, [], ◌∷◌, Option, Some, None, unwrap_or}
 use Rattle.ng_bpf_vm.specs.declared.instruction.Insn.{Insn}
 use Rattle.ng_bpf_vm.specs.declared.machine.Registers.{Registers}
-use Rattle.ng_bpf_vm.specs.Effects.{Effect, Goes, Answers, Stuck, insn_effect, cleared}
+use Rattle.ng_bpf_vm.specs.Effects.{Effect, Goes, Answers, Stuck, insn_effect, blank_registers}
 
 -- what an effect comes to, given what the instructions after it come to
 abbrev pub follow : Effect → (ℕ → Registers → Option ℕ) → Option ℕ
@@ -19,7 +19,7 @@ answer_after (i ∷ rest) packet (suc over) r = answer_after rest packet over r
 
 -- the answer of a program on a packet, or nothing where it is stuck on the way
 unfoldable pub outcome : List Insn → List ℕ → Option ℕ
-outcome program packet = answer_after program packet 0 cleared
+outcome program packet = answer_after program packet 0 blank_registers
 
 -- the answer of a program that is not stuck
 abbrev pub answer_of : List Insn → List ℕ → ℕ

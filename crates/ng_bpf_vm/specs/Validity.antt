@@ -35,7 +35,7 @@ insn_fault i after = elim (operation_of i) [
   | Some operation ↦ operation_fault operation after
 ]
 
--- each instruction is in order, given how many follow it
+-- each instruction is right, given how many follow it
 abbrev pub EachIsRight : List Insn → Type 0
 EachIsRight [] = Unit {0}
 EachIsRight (i ∷ rest) = (insn_fault i (length rest) ≡ None) × EachIsRight rest

@@ -1,7 +1,7 @@
 // The machine's registers, and what one operation does to them.
 
 ghost use Rattle.std.specs.Prelude.{◌≡◌, ◌+◌, ◌<◌, ◌≤◌, ◌^◌, ◌%◌, length, slice_set, IsTrue};
-ghost use Rattle.ng_bpf_vm.specs.Effects.{loaded, computed, compares, operand_value, effect, cleared, take_loaded, take_header_length, names_word, came};
+ghost use Rattle.ng_bpf_vm.specs.Effects.{value_at, result_of, compares, operand_value, effect, blank_registers, take_value, take_header_length, names_word, effect_of_next};
 ghost use Rattle.ng_bpf_vm.specs.declared.operation.Size.TheVariants.{Word, Half, Byte};
 
 use crate::operation::{Arithmetic, Comparison, Operand, Operation, Size};
@@ -23,8 +23,8 @@ pub enum Next {
 
 impl Registers {
     /// The registers before the first operation: all 0.
-    pub fn cleared() -> Self
-        ensures { result ≡ cleared }
+    pub fn new() -> Self
+        ensures { result ≡ blank_registers }
     {
         Registers {
             accumulator: 0,
@@ -37,7 +37,7 @@ impl Registers {
     #[tactic(auto, unfolding(crate::specs::Effects::effect))]
     pub fn step(&mut self, operation: Operation, packet: &[u8]) -> Next
         requires { IsTrue (names_word operation) }
-        ensures { came result self.new ≡ effect operation packet.now self.old }
+        ensures { effect_of_next result self.new ≡ effect operation packet.now self.old }
     {
         match operation {
             Operation::LoadAbsolute(size, at) => self.take(load(packet, at as usize, size)),
@@ -83,7 +83,7 @@ impl Registers {
 
     // The accumulator takes the value, or the program ends with 0 where there is none.
     fn take(&mut self, value: Option<u32>) -> Next
-        ensures { came result self.new ≡ take_loaded value self.old }
+        ensures { effect_of_next result self.new ≡ take_value value self.old }
     {
         match value {
             None => Next::Answer(0),
@@ -93,7 +93,7 @@ impl Registers {
 
     // The index register takes four times the low four bits, or the program ends with 0 where there is no byte.
     fn take_header_length(&mut self, byte: Option<u32>) -> Next
-        ensures { came result self.new ≡ take_header_length byte self.old }
+        ensures { effect_of_next result self.new ≡ take_header_length byte self.old }
     {
         match byte {
             None => Next::Answer(0),
@@ -137,7 +137,7 @@ fn length_of(packet: &[u8]) -> u32
 // The packet's bytes from a place on, the first one the most significant, or nothing where they are not all there.
 fn load(packet: &[u8], at: usize, size: Size) -> Option<u32>
     requires { at < 2 ^ 33 }
-    ensures { result ≡ loaded size packet.now at }
+    ensures { result ≡ value_at size packet.now at }
 {
     match size {
         Size::Word => load_word(packet, at),
@@ -146,10 +146,10 @@ fn load(packet: &[u8], at: usize, size: Size) -> Option<u32>
     }
 }
 
-#[tactic(auto, unfolding(crate::specs::Effects::loaded))]
+#[tactic(auto, unfolding(crate::specs::Effects::value_at))]
 fn load_word(packet: &[u8], at: usize) -> Option<u32>
     requires { at < 2 ^ 33 }
-    ensures { result ≡ loaded Word packet.now at }
+    ensures { result ≡ value_at Word packet.now at }
 {
     if at + 4 <= packet.len() {
         let high = u32::from(packet[at]) * 256 + u32::from(packet[at + 1]);
@@ -160,10 +160,10 @@ fn load_word(packet: &[u8], at: usize) -> Option<u32>
     }
 }
 
-#[tactic(auto, unfolding(crate::specs::Effects::loaded))]
+#[tactic(auto, unfolding(crate::specs::Effects::value_at))]
 fn load_half(packet: &[u8], at: usize) -> Option<u32>
     requires { at < 2 ^ 33 }
-    ensures { result ≡ loaded Half packet.now at }
+    ensures { result ≡ value_at Half packet.now at }
 {
     if at + 2 <= packet.len() {
         Some(u32::from(packet[at]) * 256 + u32::from(packet[at + 1]))
@@ -172,10 +172,10 @@ fn load_half(packet: &[u8], at: usize) -> Option<u32>
     }
 }
 
-#[tactic(auto, unfolding(crate::specs::Effects::loaded))]
+#[tactic(auto, unfolding(crate::specs::Effects::value_at))]
 fn load_byte(packet: &[u8], at: usize) -> Option<u32>
     requires { at < 2 ^ 33 }
-    ensures { result ≡ loaded Byte packet.now at }
+    ensures { result ≡ value_at Byte packet.now at }
 {
     if at < packet.len() {
         Some(u32::from(packet[at]))
@@ -185,9 +185,9 @@ fn load_byte(packet: &[u8], at: usize) -> Option<u32>
 }
 
 // The accumulator and a value by the operator, or nothing for a quotient or a remainder by 0.
-#[tactic(auto, unfolding(crate::specs::Effects::computed))]
+#[tactic(auto, unfolding(crate::specs::Effects::result_of))]
 fn compute(arithmetic: Arithmetic, left: u32, right: u32) -> Option<u32>
-    ensures { result ≡ computed arithmetic left right }
+    ensures { result ≡ result_of arithmetic left right }
 {
     match arithmetic {
         Arithmetic::Add => Some(left.wrapping_add(right)),

@@ -75,7 +75,8 @@ impl Clone for Program {
 pub fn validate(alloc: Global, insns: &[Insn]) -> Result<Program, BadProgram>
     ensures ok { IfOk result (λ program. program ≡ insns.now) }
     ensures valid { IsValid insns.now ↔ IsOkUnless result BadProgram.NoMemory }
-    ensures bad { (at : ℕ) (why : Fault) → (result ≡ Err (BadProgram.Bad at why)) ↔ (first_fault insns.now ≡ Some (at, why)) }
+    ensures bad { (at : ℕ) (why : Fault)
+        → (result ≡ Err (BadProgram.Bad at why)) ↔ (first_fault insns.now ≡ Some (at, why)) }
 {
     match find_fault(insns) {
         Some((at, why)) => Err(BadProgram::Bad { at, why }),
@@ -93,7 +94,7 @@ pub fn run(program: &Program, packet: &[u8]) -> u32
     ensures value { result ≡ answer_of program.now packet.now }
 {
     let operations = program.operations.as_slice();
-    let mut registers = Registers::cleared();
+    let mut registers = Registers::new();
     let mut at = 0;
     loop {
         match registers.step(operations[at], packet) {
@@ -114,7 +115,7 @@ fn with_operations(alloc: Global, insns: &[Insn]) -> Result<Program, AllocError>
     })
 }
 
-// The operations of instructions that are in order.
+// The operations of instructions of which each is right.
 fn read_all(alloc: Global, insns: &[Insn]) -> Result<Vec<Operation>, AllocError>
     requires { EachIsRight insns.now }
     ensures { IfOk result (λ operations. AreRead insns.now operations.items) }

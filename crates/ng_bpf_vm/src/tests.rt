@@ -115,24 +115,6 @@ fn error_texts(rt: HostRuntime) -> Result<(), Fail> {
     Ok(())
 }
 
-#[test]
-fn first_example(rt: HostRuntime) -> Result<(), Fail> {
-    let rows = [
-        (0x28, 0, 0, 12),
-        (0x15, 0, 1, 0x806),
-        (0x06, 0, 0, 9),
-        (0x06, 0, 0, 0),
-    ];
-    let mut frame = [0u8; 14];
-    frame[12] = 0x08;
-    frame[13] = 0x06;
-    assert_eq!(rt; answer(rt.alloc(), &rows, &frame)?, 9);
-    assert_eq!(rt; answer(rt.alloc(), &rows, &frame[..13])?, 0);
-    frame[13] = 0x00;
-    assert_eq!(rt; answer(rt.alloc(), &rows, &frame)?, 0);
-    Ok(())
-}
-
 // The codes that bpf(4) lists, and no others.
 #[test]
 fn codes(rt: HostRuntime) {
