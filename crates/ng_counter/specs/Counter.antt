@@ -16,7 +16,8 @@ total_of counter = start_of counter + sum (additions_of counter)
 
 -- the desk of a seat
 abbrev pub desk_at : Counter → ℕ → Desk
-desk_at counter seat = record { start = start_of counter; seats = length (additions_of counter); additions = slice_index (additions_of counter) seat }
+desk_at counter seat =
+    record { start = start_of counter; seats = length (additions_of counter); additions = slice_index (additions_of counter) seat }
 
 -- a desk of no counter
 abbrev pub blank_desk : Desk
@@ -24,4 +25,6 @@ blank_desk = record { start = 0; seats = 0; additions = 0 }
 
 -- a counter of so many seats that began with 0, and to which each seat added once more often than its number says
 abbrev pub IsCounted : ℕ → Counter → Type 0
-IsCounted seats counter = (start_of counter ≡ 0) × (length (additions_of counter) ≡ seats) × ((seat : ℕ) → seat < seats → slice_index (additions_of counter) seat ≡ seat + 1)
+IsCounted seats counter =
+    (start_of counter ≡ 0) × (length (additions_of counter) ≡ seats) ×
+    ((seat : ℕ) → seat < seats → slice_index (additions_of counter) seat ≡ seat + 1)

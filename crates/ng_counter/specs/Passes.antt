@@ -13,11 +13,15 @@ IsOf turn pass = IsPass blank_desk turn pass
 
 -- the pass of the same seat, when that seat has added so many times more
 abbrev pub Added : Pass Counter Desk → ℕ → Pass Counter Desk → Type 0
-Added old times new = (seat_of new ≡ seat_of old) × (desk_of blank_desk new ≡ record (desk_of blank_desk old) { additions = (desk_of blank_desk old).additions + times })
+Added old times new =
+    (seat_of new ≡ seat_of old) ×
+    (desk_of blank_desk new ≡ record (desk_of blank_desk old) { additions = (desk_of blank_desk old).additions + times })
 
 -- the pass of this seat of a counter that began with 0; `times` says how often each seat has added
 abbrev pub HasAdded : Turn Counter Desk → (ℕ → ℕ) → ℕ → Pass Counter Desk → Type 0
-HasAdded turn times seat pass = IsOf turn pass × (seat_of pass ≡ seat) × (seat < seats_of turn) × (desk_of blank_desk pass ≡ record { start = 0; seats = seats_of turn; additions = times seat })
+HasAdded turn times seat pass =
+    IsOf turn pass × (seat_of pass ≡ seat) × (seat < seats_of turn) ×
+    (desk_of blank_desk pass ≡ record { start = 0; seats = seats_of turn; additions = times seat })
 
 -- so is each pass, in the order of the seats
 abbrev pub HaveAdded : Turn Counter Desk → (ℕ → ℕ) → List (Pass Counter Desk) → Type 0

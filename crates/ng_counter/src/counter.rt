@@ -32,7 +32,7 @@ impl Desked for Counter {
 impl Counter {
     ghost use Rattle.ng_counter.specs.Counter.{additions_of, start_of, total_of};
 
-    /// A counter at `start`, to which no seat has added yet. `Err` is want of memory.
+    /// A counter at `start`, to which no seat has added yet. `Err` is out of memory.
     pub fn new(alloc: Global, start: u64, seats: usize) -> Result<Counter, AllocError>
         ensures { IfOk result (λ counter. (start_of counter ≡ start) × (additions_of counter ≡ replicate seats 0)) }
     {
@@ -45,7 +45,8 @@ impl Counter {
         requires seat { seat < length (additions_of self.old) }
         requires room { slice_index (additions_of self.old) seat + 1 < 2 ^ 64 }
         ensures start { start_of self.new ≡ start_of self.old }
-        ensures additions { additions_of self.new ≡ slice_set (additions_of self.old) seat (slice_index (additions_of self.old) seat + 1) }
+        ensures additions { additions_of self.new
+            ≡ slice_set (additions_of self.old) seat (slice_index (additions_of self.old) seat + 1) }
     {
         self.additions[seat as usize] += 1;
     }

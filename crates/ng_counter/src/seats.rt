@@ -50,7 +50,7 @@ pub fn add_times<R: Wait>(
 /// Hands a counter of two seats round: each seat takes it and puts it back, first one after the
 /// other and then both in threads of their own. What comes out at the end is the counter as it was.
 ///
-/// `Err` is want of memory, and gives the counter back.
+/// `Err` is out of memory, and gives the counter back.
 pub fn pass_round<R: Threads + Wait + Sync>(
     rt: &R,
     alloc: Global,
@@ -99,12 +99,15 @@ pub fn spread<R: Threads + Wait + Sync>(
     let (last, mut passes) = thread::join(
         rt,
         move || -> Pass<Counter>
-            requires { IsOf turn.now last × (times ≡ seat_of last + 1) × (desk_of blank_desk last ≡ record { start = 0; seats = seats_of turn.now; additions = 0 }) × (seat_of last < seats_of turn.now) × (seats_of turn.now ≤ 17) }
+            requires { IsOf turn.now last × (times ≡ seat_of last + 1)
+                × (desk_of blank_desk last ≡ record { start = 0; seats = seats_of turn.now; additions = 0 })
+                × (seat_of last < seats_of turn.now) × (seats_of turn.now ≤ 17) }
             ensures { IsOf turn.entry.now result × Added last times result }
         { add_times(rt, turn, last, times) },
         move || -> Vec<Pass<Counter>>
             requires { IsSync R.row × AreIdle turn.now passes.items × (seats_of turn.now ≤ 17) }
-            ensures { AreDone turn.entry.now result.items × (vec_len result ≡ vec_len passes) × (vec_capacity result ≡ vec_capacity passes) }
+            ensures { AreDone turn.entry.now result.items × (vec_len result ≡ vec_len passes)
+                × (vec_capacity result ≡ vec_capacity passes) }
         { spread(rt, turn, passes) },
     );
     passes.push_reserved(last);
@@ -112,7 +115,7 @@ pub fn spread<R: Threads + Wait + Sync>(
 }
 
 /// A counter that began with 0 and to which seat 0 added once, seat 1 twice and so on: seat 0 in this
-/// thread, and each of the workers in a thread of its own. `Err` is want of memory.
+/// thread, and each of the workers in a thread of its own. `Err` is out of memory.
 pub fn counted_by<R: Threads + Wait + Sync>(
     rt: &R,
     alloc: Global,
@@ -129,7 +132,7 @@ pub fn counted_by<R: Threads + Wait + Sync>(
     Ok(turn.end(rt, passes))
 }
 
-/// Three seats, in three threads, add once, twice and three times. `Err` is want of memory.
+/// Three seats, in three threads, add once, twice and three times. `Err` is out of memory.
 pub fn six<R: Threads + Wait + Sync>(rt: &R, alloc: Global) -> Result<u64, AllocError>
     ensures { IfOk result (λ total. total ≡ 6) }
 {

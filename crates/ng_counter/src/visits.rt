@@ -36,11 +36,13 @@ pub fn visit_together<T: Desked + Drop + Send, R: Threads + Wait + Sync>(
         rt,
         move || -> Pass<T>
             requires { IsPass T.blank turn.now first }
-            ensures { IsPass T.blank turn.entry.now result × (seat_of result ≡ seat_of first) × (desk_of T.blank result ≡ desk_of T.blank first) }
+            ensures { IsPass T.blank turn.entry.now result × (seat_of result ≡ seat_of first)
+                × (desk_of T.blank result ≡ desk_of T.blank first) }
         { visit(rt, turn, first) },
         move || -> Pass<T>
             requires { IsPass T.blank turn.now second }
-            ensures { IsPass T.blank turn.entry.now result × (seat_of result ≡ seat_of second) × (desk_of T.blank result ≡ desk_of T.blank second) }
+            ensures { IsPass T.blank turn.entry.now result × (seat_of result ≡ seat_of second)
+                × (desk_of T.blank result ≡ desk_of T.blank second) }
         { visit(rt, turn, second) },
     )
 }

@@ -7,7 +7,8 @@ use Rattle.crossbeam_queue.proofs.Lists.{at_set}
 
 module _ {A : Type 0} where
   -- an element of a list with one more at its end is one of the list, or the last
-  pub at_push : (xs : List A) (a b : A) (j : ℕ) → get_elem? (xs ++ a ∷ []) j ≡ some b → (get_elem? xs j ≡ some b) ⊎ ((j ≡ length xs) × (a ≡ b))
+  pub at_push : (xs : List A) (a b : A) (j : ℕ) → get_elem? (xs ++ a ∷ []) j ≡ some b
+      → (get_elem? xs j ≡ some b) ⊎ ((j ≡ length xs) × (a ≡ b))
   at_push [] a b zero at = inr (refl, some-injective a b at)
   at_push [] a b (suc j) at = absurd (some-ne-none b (sym at))
   at_push (x ∷ xs) a b zero at = inl at
@@ -24,7 +25,8 @@ module _ {A : Type 0} where
   set_there (x ∷ xs) (suc i) a b at = set_there xs i a b at
 
   -- what is so of the element that is written and of each other is so of each
-  pub each_set : (P : ℕ → A → Type 0) (xs : List A) (i : ℕ) (a : A) → P i a → ((j : ℕ) (b : A) → j ≢ i → get_elem? xs j ≡ some b → P j b)
+  pub each_set : (P : ℕ → A → Type 0) (xs : List A) (i : ℕ) (a : A) → P i a
+      → ((j : ℕ) (b : A) → j ≢ i → get_elem? xs j ≡ some b → P j b)
       → (j : ℕ) (b : A) → get_elem? (set xs i a) j ≡ some b → P j b
   each_set P xs i a here others j b at = ⊎_elim
       (λ (same : (j ≡ i) × (a ≡ b)). subst (λ (y : ℕ × A). P y.0 y.1) (λ k. (sym same.0 k, same.1 k)) here)
@@ -32,7 +34,8 @@ module _ {A : Type 0} where
       (at_set xs i j a b at)
 
   -- what is so of each element and of one more is so of each
-  pub each_push : (P : ℕ → A → Type 0) (xs : List A) (a : A) → P (length xs) a → ((j : ℕ) (b : A) → get_elem? xs j ≡ some b → P j b)
+  pub each_push : (P : ℕ → A → Type 0) (xs : List A) (a : A) → P (length xs) a
+      → ((j : ℕ) (b : A) → get_elem? xs j ≡ some b → P j b)
       → (j : ℕ) (b : A) → get_elem? (xs ++ a ∷ []) j ≡ some b → P j b
   each_push P xs a last others j b at = ⊎_elim
       (λ (old : get_elem? xs j ≡ some b). others j b old)
@@ -64,7 +67,8 @@ module _ {A : Type 0} where
   contains_only x a within = only_at x a within.0 within.1 within.2
 
 module _ {A B : Type 0} (f : A → B) where
-  from_map_at : (xs : List A) (b : B) (k : ℕ) → k < length (map f xs) → slice_index_or (map f xs) k b ≡ b → (a : A) × Contains xs a × (f a ≡ b)
+  from_map_at : (xs : List A) (b : B) (k : ℕ) → k < length (map f xs) → slice_index_or (map f xs) k b ≡ b
+      → (a : A) × Contains xs a × (f a ≡ b)
   from_map_at [] b k l e = absurd (omega arith)
   from_map_at (x ∷ xs) b zero l e = (x, contains_here x xs, e)
   from_map_at (x ∷ xs) b (suc k) l e =

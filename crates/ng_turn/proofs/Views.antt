@@ -7,7 +7,7 @@ use lib.ListN.{get_elem?}
 use Rattle.crossbeam_queue.proofs.Lists.{at_set}
 use Rattle.ng_turn.specs.declared.rule.View.{View}
 use Rattle.ng_turn.specs.declared.rule.View.TheVariants.{Stock, Waits}
-use Rattle.ng_turn.specs.Rule.{Knows, KnowsSeat, IsApart, spent}
+use Rattle.ng_turn.specs.Rule.{Knows, KnowsSeat, IsApart, spent_view}
 use Rattle.ng_turn.proofs.Lists.{at_push, at_only, contains_none, contains_only, contains_map}
 
 module _ {T D : Type 0} (desk : T → ℕ → D) where
@@ -15,15 +15,21 @@ module _ {T D : Type 0} (desk : T → ℕ → D) where
   abbrev pub first_of_stock : T → ℕ → View T D
   first_of_stock value next = Waits ((next, desk value next) ∷ [])
 
-  pub knows_dealt : (value : T) (next seat : ℕ) (d : D) → Knows desk (first_of_stock value next) seat d → (next ≡ seat) × (desk value next ≡ d)
-  knows_dealt value next seat d known = let same = contains_only (next, desk value next) (seat, d) known in (ap (λ (k : ℕ × D). k.0) same, ap (λ (k : ℕ × D). k.1) same)
+  pub knows_dealt : (value : T) (next seat : ℕ) (d : D) → Knows desk (first_of_stock value next) seat d
+      → (next ≡ seat) × (desk value next ≡ d)
+  knows_dealt value next seat d known =
+      let same = contains_only (next, desk value next) (seat, d) known in
+      (ap (λ (k : ℕ × D). k.0) same, ap (λ (k : ℕ × D). k.1) same)
 
-  pub knows_popped : (value : T) (desks : List (ℕ × D)) (seat : ℕ) → Contains (map (λ known. known.0) desks) seat → (d : D) × Contains {X = ℕ × D} desks (seat, d)
+  pub knows_popped : (value : T) (desks : List (ℕ × D)) (seat : ℕ) → Contains (map (λ known. known.0) desks) seat
+      → (d : D) × Contains {X = ℕ × D} desks (seat, d)
   knows_popped value desks seat within =
       let from = contains_map (λ (known : ℕ × D). known.0) desks seat within in
       (from.0.1, subst (λ s. Contains {X = ℕ × D} desks (s, from.0.1)) from.2 from.1)
 
-  pub knows_pushed : (value : T) (seats : List ℕ) (seat : ℕ) (d : D) → Contains {X = ℕ × D} (map (λ s. (s, desk value s)) seats) (seat, d) → Contains seats seat × (desk value seat ≡ d)
+  pub knows_pushed : (value : T) (seats : List ℕ) (seat : ℕ) (d : D)
+      → Contains {X = ℕ × D} (map (λ s. (s, desk value s)) seats) (seat, d)
+      → Contains seats seat × (desk value seat ≡ d)
   knows_pushed value seats seat d within =
       let from = contains_map (λ (s : ℕ). (s, desk value s)) seats (seat, d) within in
       let same : from.0 ≡ seat = ap (λ (k : ℕ × D). k.0) from.2 in
@@ -43,7 +49,8 @@ module _ {T D : Type 0} (desk : T → ℕ → D) where
           (at_set views ticket k w known.0 known.2)
 
   -- a seat of the stock goes to a new view
-  module _ (views : List (View T D)) (ticket : ℕ) (value : T) (next : ℕ) (at : get_elem? views ticket ≡ some (Stock value next)) (apart : IsApart desk views) where
+  module _ (views : List (View T D)) (ticket : ℕ) (value : T) (next : ℕ) (at : get_elem? views ticket ≡ some (Stock value next))
+      (apart : IsApart desk views) where
     abbrev left : List (View T D)
     left = set views ticket (Stock value (next + 1))
 
@@ -106,14 +113,15 @@ module _ {T D : Type 0} (desk : T → ℕ → D) where
         (λ (old : (k ≢ ticket) × (get_elem? views k ≡ some u)). inl (u, d, old.1, known))
         (at_set views ticket k (Waits (desks ++ others)) u there)
 
-    had_elsewhere : (seat k : ℕ) → KnowsSeat desk (set joined other spent) k seat → (k ≢ other) × Had seat k
+    had_elsewhere : (seat k : ℕ) → KnowsSeat desk (set joined other spent_view) k seat → (k ≢ other) × Had seat k
     had_elsewhere seat k known = ⊎_elim
-        (λ (same : (k ≡ other) × (spent ≡ known.0)).
-        let none : Contains {X = ℕ × D} [] (seat, known.1) = subst (λ w. Knows desk w seat known.1) (sym same.1) known.3 in absurd (contains_none (seat, known.1) none))
+        (λ (same : (k ≡ other) × (spent_view ≡ known.0)).
+        let none : Contains {X = ℕ × D} [] (seat, known.1) =
+        subst (λ w. Knows desk w seat known.1) (sym same.1) known.3 in absurd (contains_none (seat, known.1) none))
         (λ (old : (k ≢ other) × (get_elem? joined k ≡ some known.0)). (old.0, had seat k known.0 known.1 old.1 known.3))
-        (at_set joined other k spent known.0 known.2)
+        (at_set joined other k spent_view known.0 known.2)
 
-    pub apart_gather : IsApart desk (set joined other spent)
+    pub apart_gather : IsApart desk (set joined other spent_view)
     apart_gather i j seat first second =
         let a = had_elsewhere seat i first in let b = had_elsewhere seat j second in ⊎_elim
         (λ (x : KnowsSeat desk views i seat). ⊎_elim

@@ -34,8 +34,8 @@ module _ {T D : Type 0} where
   IsOfSeats v = (desks : List (ℕ × D)) × (v ≡ Waits desks)
 
   -- a view that knows of no seat
-  abbrev pub spent : View T D
-  spent = Waits []
+  abbrev pub spent_view : View T D
+  spent_view = Waits []
 
   -- what a pop of the value makes of a view
   abbrev pub after_pop : T → View T D → View T D
@@ -52,9 +52,9 @@ module _ {T D : Type 0} where
   stock_left (Holds found seats) = Holds found seats
 
   -- what two views know
-  abbrev pub gathered : View T D → View T D → View T D
-  gathered (Waits desks) (Waits others) = Waits (desks ++ others)
-  gathered v w = v
+  abbrev pub joined_view : View T D → View T D → View T D
+  joined_view (Waits desks) (Waits others) = Waits (desks ++ others)
+  joined_view v w = v
 
   -- where the view holds, the place is empty
   abbrev pub IsBare : View T D → List T → Type 0
@@ -84,11 +84,11 @@ module _ {T D : Type 0} (desk : T → ℕ → D) where
   after_push value (Holds found seats) = Waits (map (λ seat. (seat, desk value seat)) seats)
 
   -- what a split gives to the next seat of the stock
-  abbrev pub dealt : View T D → View T D
-  dealt Opening = spent
-  dealt (Stock value next) = Waits ((next, desk value next) ∷ [])
-  dealt (Waits desks) = spent
-  dealt (Holds found seats) = spent
+  abbrev pub dealt_view : View T D → View T D
+  dealt_view Opening = spent_view
+  dealt_view (Stock value next) = Waits ((next, desk value next) ∷ [])
+  dealt_view (Waits desks) = spent_view
+  dealt_view (Holds found seats) = spent_view
 
   -- the view with this number knows the seat
   abbrev pub KnowsSeat : List (View T D) → ℕ → ℕ → Type 0
@@ -116,7 +116,8 @@ pub record IsAway {T D : Type 0} (desk : T → ℕ → D) (items : List T) (view
   pub seats : List ℕ
   pub bare : items ≡ []
   pub holds : get_elem? views holder ≡ some (Holds found seats)
-  pub others : (ticket : ℕ) (v : View T D) → ticket ≢ holder → get_elem? views ticket ≡ some v → IsResting v × AgreesWith desk found v
+  pub others : (ticket : ℕ) (v : View T D) → ticket ≢ holder → get_elem? views ticket ≡ some v
+      → IsResting v × AgreesWith desk found v
 
 -- the rule
 pub record IsRuled {T D : Type 0} (desk : T → ℕ → D) (items : List T) (views : List (View T D)) : Type 0 where

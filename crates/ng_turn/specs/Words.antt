@@ -52,8 +52,8 @@ module _ {T D : Type 0} where
   value_of held = held.value
 
   -- the value as it was taken
-  abbrev pub found : Held T D → T
-  found held = held.found.value
+  abbrev pub found_value : Held T D → T
+  found_value held = held.found.value
 
   -- a pass of this place: its view knows its own seat and the seat's desk, and nothing else
   abbrev pub IsPassAt : D → Place T D → Pass T D → Type 0
@@ -65,11 +65,11 @@ module _ {T D : Type 0} where
 
   -- the value was taken from this turn
   abbrev pub IsHeld : Turn T D → Held T D → Type 0
-  IsHeld turn held = IsPassOf turn.place held.ticket × (view held.ticket ≡ Holds (found held) (held.seat ∷ []))
+  IsHeld turn held = IsPassOf turn.place held.ticket × (view held.ticket ≡ Holds (found_value held) (held.seat ∷ []))
 
   -- the desk of every other seat is as it was found: of each number but the holder's, whether or not a pass was made for it
   abbrev pub KeepsOthers : (T → ℕ → D) → Held T D → Type 0
-  KeepsOthers desk held = (seat : ℕ) → seat ≢ holder held → desk (value_of held) seat ≡ desk (found held) seat
+  KeepsOthers desk held = (seat : ℕ) → seat ≢ holder held → desk (value_of held) seat ≡ desk (found_value held) seat
 
   -- P is so of each pass in the list, with its place there
   abbrev pub EachPass : (ℕ → Pass T D → Type 0) → List (Pass T D) → Type 0
@@ -77,12 +77,15 @@ module _ {T D : Type 0} where
 
   -- the passes of the first seats of this place, in order, each with its desk of the value
   abbrev pub AreFirst : D → (T → ℕ → D) → Place T D → T → List (Pass T D) → Type 0
-  AreFirst blank desk place value passes = EachPass (λ seat pass. IsPassAt blank place pass × (seat_of pass ≡ seat) × (desk_of blank pass ≡ desk value seat)) passes
+  AreFirst blank desk place value passes =
+      EachPass (λ seat pass. IsPassAt blank place pass × (seat_of pass ≡ seat) × (desk_of blank pass ≡ desk value seat)) passes
 
   -- the passes of all seats of this turn, in order
   abbrev pub AreAllPasses : D → Turn T D → List (Pass T D) → Type 0
-  AreAllPasses blank turn passes = (length passes ≡ seats_of turn) × EachPass (λ seat pass. IsPass blank turn pass × (seat_of pass ≡ seat)) passes
+  AreAllPasses blank turn passes =
+      (length passes ≡ seats_of turn) × EachPass (λ seat pass. IsPass blank turn pass × (seat_of pass ≡ seat)) passes
 
   -- what `new` makes of a value and a number of seats: the passes of all seats, in order, each with its desk of the value
   abbrev pub Begins : D → (T → ℕ → D) → T → ℕ → Turn T D → List (Pass T D) → Type 0
-  Begins blank desk value seats turn passes = (length passes ≡ seats) × (seats_of turn ≡ seats) × AreFirst blank desk turn.place value passes
+  Begins blank desk value seats turn passes =
+      (length passes ≡ seats) × (seats_of turn ≡ seats) × AreFirst blank desk turn.place value passes

@@ -9,7 +9,7 @@ use std::snapshot::Snapshot;
 ///
 /// It can't be dropped: a path on which the value would be lost doesn't compile, so there is no `?`
 /// between `Turn::take` and `Turn::put`. A contract sees the seat (`holder`), the turn (`IsHeld`), the
-/// value as it is (`value_of`) and the value as it was taken (`found`).
+/// value as it is (`value_of`) and the value as it was taken (`found_value`).
 pub struct Held<T: Desked> {
     pub(crate) ticket: Ticket<T>,
     pub(crate) seat: u32,

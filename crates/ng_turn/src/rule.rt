@@ -74,20 +74,20 @@ impl<T: Desked> Outcome<T, View<T, T::Desk>> for Takes {
 pub struct Deals;
 
 impl<T: Desked> Split<View<T, T::Desk>> for Deals {
-    ghost use Rattle.ng_turn.specs.Rule.{stock_left, dealt};
+    ghost use Rattle.ng_turn.specs.Rule.{stock_left, dealt_view};
 
     ghost left = { stock_left };
 
-    ghost right = { dealt T.desk };
+    ghost right = { dealt_view T.desk };
 }
 
 /// A join, by `end`: what both tickets know.
 pub struct Gathers;
 
 impl<T: Desked> Join<View<T, T::Desk>> for Gathers {
-    ghost use Rattle.ng_turn.specs.Rule.{gathered, spent};
+    ghost use Rattle.ng_turn.specs.Rule.{joined_view, spent_view};
 
-    ghost both = { gathered };
+    ghost both = { joined_view };
 
-    ghost spent = { spent };
+    ghost spent = { spent_view };
 }

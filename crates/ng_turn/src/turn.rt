@@ -25,11 +25,11 @@ pub struct Turn<T: Desked> {
 }
 
 impl<T: Desked + Drop> Turn<T> {
-    ghost use Rattle.ng_turn.specs.Words.{AreAllPasses, Begins, EachPass, IsHeld, IsPass, KeepsOthers, desk_of, found, holder, seat_of, value_of};
+    ghost use Rattle.ng_turn.specs.Words.{AreAllPasses, Begins, EachPass, IsHeld, IsPass, KeepsOthers, desk_of, found_value, holder, seat_of, value_of};
 
     /// A turn at the value, and a pass for each seat, in order from 0. There is at least one seat.
     ///
-    /// `Err` is want of memory, and gives the value back.
+    /// `Err` is out of memory, and gives the value back.
     pub fn new<R: Wait>(
         rt: &R,
         alloc: Global,
@@ -63,7 +63,7 @@ impl<T: Desked + Drop> Turn<T> {
         requires { IsPass T.blank self.now pass }
         ensures turn { IsHeld self.now result }
         ensures seat { holder result ≡ seat_of pass }
-        ensures value { found result ≡ value_of result }
+        ensures value { found_value result ≡ value_of result }
         ensures desk { T.desk (value_of result) (seat_of pass) ≡ desk_of T.blank pass }
     {
         let Pass { mut ticket, seat } = pass;

@@ -11,5 +11,8 @@ end-requires g c = let done = c.spread-passes.ensures.done in let made = c.in-Ok
     ((search rules), λ k p at. let is = done k p at in (is.0, is.1))
 
 pub returns : goal.returns
-returns g c = let made = c.in-Ok.ensures.made in let len : length c.spread-passes.result.items ≡ c.args.workers + 1 = search rules in
-    ended c.in-Ok.turn c.spread-passes.result.items c.end.result (c.args.workers + 1) (λ k. k + 1) (omega arith) len made.1 c.spread-passes.ensures.done c.end.ensures
+returns g c =
+    let made = c.in-Ok.ensures.made in
+    let len : length c.spread-passes.result.items ≡ c.args.workers + 1 = search rules in
+    ended c.in-Ok.turn c.spread-passes.result.items c.end.result (c.args.workers + 1) (λ k. k + 1)
+    (omega arith) len made.1 c.spread-passes.ensures.done c.end.ensures

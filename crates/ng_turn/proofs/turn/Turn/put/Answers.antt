@@ -11,6 +11,7 @@ pub push_as-requires-clause-rule : goal.push_as-requires-clause-rule
 push_as-requires-clause-rule g c =
     let desk = g.T.Desked.desk in let held = c.args.held in let n = ruled_capacity c.args.self.now.place in (
       subst (λ v. Pushes (IsRuled desk) n held.ticket.id v held.value (λ w. w ≡ after_push desk held.value v)) (sym c.requires.turn.1)
-          (puts desk n held.ticket.id held.found.value held.value (held.seat ∷ []) (λ seat other. c.requires.others seat (λ same. other (subst (λ s. Contains (held.seat ∷ []) s) (sym same) (contains_here held.seat []))))),
+          (puts desk n held.ticket.id held.found.value held.value (held.seat ∷ [])
+          (λ seat other. c.requires.others seat (λ same. other (subst (λ s. Contains (held.seat ∷ []) s) (sym same) (contains_here held.seat []))))),
       bare desk held.ticket.id _,
     )
