@@ -63,16 +63,8 @@ fn tags_of_public_formats(rt: HostRuntime) {
         ),
     ];
     for (name, frame, tag) in cases {
-        assert_eq!(rt; untag(&frame), tag, "{name}");
+        assert_eq!(rt; untag(&frame, CUSTOMER_TAG), tag, "{name}");
     }
-}
-
-#[test]
-fn too_short_for_a_tag(rt: HostRuntime) {
-    assert_eq!(rt; untag(&[]), None);
-    assert_eq!(rt; untag(&PLAIN), None);
-    let cut = [1, 2, 3, 4, 5, 6, 7, 8, 9, 10, 11, 12, 0x81, 0, 0x20, 5, 8];
-    assert_eq!(rt; untag(&cut), None, "17 bytes");
 }
 
 #[test]
@@ -80,40 +72,41 @@ fn tag_with_a_priority_is_left_out(rt: HostRuntime) -> Result<(), Fail> {
     let frame = [
         1, 2, 3, 4, 5, 6, 7, 8, 9, 10, 11, 12, 0x81, 0, 0x20, 5, 8, 0,
     ];
-    assert_eq!(rt; untag(&frame), Some((5, [8, 0])));
-    let Some((vlan, _)) = untag(&frame) else {
+    assert_eq!(rt; untag(&frame, CUSTOMER_TAG), Some((5, [8, 0])));
+    let Some((vlan, _)) = untag(&frame, CUSTOMER_TAG) else {
         return Err("no tag")?;
     };
     assert_eq!(rt; vlan, 5);
-    let plain = without_tag(rt.alloc(), &frame)?;
+    let plain = without_tag(rt.alloc(), &frame, CUSTOMER_TAG)?;
     assert_eq!(rt; plain.as_slice(), PLAIN.as_slice());
     Ok(())
 }
 
+// Row by row: the TPID, and the control information of priority, drop eligible indicator and number.
 #[test]
 fn tag_is_inserted(rt: HostRuntime) -> Result<(), Fail> {
-    let cases: [(u16, u8, u8); 3] = [(5, 0, 5), (0, 0, 0), (4095, 0x0f, 0xff)];
-    for (vlan, high, low) in cases {
-        assert!(rt; vlan <= MAX_VLAN);
-        let frame = with_tag(rt.alloc(), &PLAIN, vlan)?;
+    let cases: [(u16, u16, [u8; 4]); 4] = [
+        (CUSTOMER_TAG, 5, [0x81, 0x00, 0, 5]),
+        (CUSTOMER_TAG, 0, [0x81, 0x00, 0, 0]),
+        (CUSTOMER_TAG, 0xffff, [0x81, 0x00, 0xff, 0xff]),
+        (SERVICE_TAG, 0x6005, [0x88, 0xa8, 0x60, 0x05]),
+    ];
+    for (kind, control, tag) in cases {
+        let frame = with_tag(rt.alloc(), &PLAIN, kind, control)?;
         let tagged = [
-            1, 2, 3, 4, 5, 6, 7, 8, 9, 10, 11, 12, 0x81, 0, high, low, 8, 0,
+            1, 2, 3, 4, 5, 6, 7, 8, 9, 10, 11, 12, tag[0], tag[1], tag[2], tag[3], 8, 0,
         ];
-        assert_eq!(rt; frame.as_slice(), tagged.as_slice(), "VLAN {vlan}");
+        assert_eq!(rt; frame.as_slice(), tagged.as_slice(), "{kind} {control}");
+        assert_eq!(rt;
+            untag(frame.as_slice(), kind),
+            Some((control & 0x0fff, [8, 0]))
+        );
     }
     Ok(())
 }
 
 #[test]
-fn longest_frame_is_tagged(rt: HostRuntime) -> Result<(), Fail> {
-    let longest = vec![in rt.alloc(); 0xee; MAX_UNTAGGED_LEN]?;
-    let frame = with_tag(rt.alloc(), longest.as_slice(), 1)?;
-    assert_eq!(rt; frame.len(), 262_144);
-    Ok(())
-}
-
-#[test]
-fn want_of_memory_has_a_text(rt: HostRuntime) -> Result<(), Fail> {
+fn out_of_memory_has_a_text(rt: HostRuntime) -> Result<(), Fail> {
     let text = format!(in rt.alloc(); "{NoMemory}")?;
     assert_eq!(rt; text.as_str(), "out of memory");
     Ok(())

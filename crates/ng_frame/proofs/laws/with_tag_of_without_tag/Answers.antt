@@ -7,7 +7,7 @@ use Rattle.std.proofs.lemmas.List.{take_at, drop_at, take-append-drop, length-ta
 use Rattle.std.proofs.lemmas.List.Elements.{All-get_or, All-take, All-drop}
 use Rattle.std.proofs.lemmas.List.Folds.{drop_split}
 use Rattle.std.proofs.lemmas.Nat.{be_bytes_2}
-use Rattle.ng_frame.specs.Frame.{tpid, tag_control_of, untagged, tagged}
+use Rattle.ng_frame.specs.Frame.{tpid, tag_control_of, without_tag, with_tag}
 use Rattle.ng_frame.proofs.laws.with_tag_of_without_tag.Goals as goal
 
 -- a list as its front, two parts and its rest
@@ -34,16 +34,16 @@ control_again xs long bytes =
     refl
 
 pub returns : goal.returns
-returns c frame bytes is_tagged =
+returns c kind frame bytes is_tagged =
     let long : 12 ≤ length frame = omega (arith, is_tagged.long) in
     let front_len : length (take 12 frame) ≡ 12 = omega (arith, length-take 12 frame) in
-    let front : take 12 (untagged frame) ≡ take 12 frame = take_at (take 12 frame) (drop 16 frame) 12 front_len in
-    let rest : drop 12 (untagged frame) ≡ drop 16 frame = drop_at (take 12 frame) (drop 16 frame) 12 front_len in
+    let front : take 12 (without_tag frame) ≡ take 12 frame = take_at (take 12 frame) (drop 16 frame) 12 front_len in
+    let rest : drop 12 (without_tag frame) ≡ drop 16 frame = drop_at (take 12 frame) (drop 16 frame) 12 front_len in
     let control : to_be_bytes w16 (tag_control_of frame) ≡ slice_range frame 14 16 = control_again frame (omega (arith, is_tagged.long)) bytes in
-    let whole : tagged (tag_control_of frame) (untagged frame) ≡ ((take 12 frame ++ slice_range frame 12 14) ++ slice_range frame 14 16) ++ drop 16 frame =
-    ap (λ (ys : List ℕ). ((ys ++ tpid) ++ to_be_bytes w16 (tag_control_of frame)) ++ drop 12 (untagged frame)) front
-    ∙ ap (λ (ys : List ℕ). ((take 12 frame ++ ys) ++ to_be_bytes w16 (tag_control_of frame)) ++ drop 12 (untagged frame)) (sym is_tagged.protocol)
-    ∙ ap (λ (ys : List ℕ). ((take 12 frame ++ slice_range frame 12 14) ++ ys) ++ drop 12 (untagged frame)) control
+    let whole : with_tag kind (tag_control_of frame) (without_tag frame) ≡ ((take 12 frame ++ slice_range frame 12 14) ++ slice_range frame 14 16) ++ drop 16 frame =
+    ap (λ (ys : List ℕ). ((ys ++ tpid kind) ++ to_be_bytes w16 (tag_control_of frame)) ++ drop 12 (without_tag frame)) front
+    ∙ ap (λ (ys : List ℕ). ((take 12 frame ++ ys) ++ to_be_bytes w16 (tag_control_of frame)) ++ drop 12 (without_tag frame)) (sym is_tagged.protocol)
+    ∙ ap (λ (ys : List ℕ). ((take 12 frame ++ slice_range frame 12 14) ++ ys) ++ drop 12 (without_tag frame)) control
     ∙ ap (λ (ys : List ℕ). ((take 12 frame ++ slice_range frame 12 14) ++ slice_range frame 14 16) ++ ys) rest
     in
     whole ∙ simp append_assoc (sym (parts frame))
