@@ -1,11 +1,11 @@
 -- The types of nodes and their names. Each name is that of the manual page, ng_hub(4) and so on, without `ng_`.
-use Rattle.std.specs.Prelude.{ℕ, Bool, ◌==◌, List, [], ◌∷◌, codes, find, Option}
+use Rattle.std.specs.Prelude.{ℕ, Bool, ◌+◌, ◌==◌, List, [], ◌∷◌, codes, find, Option}
 use Rattle.std.specs.Str.{bytes_eq}
 use Rattle.ng_base.specs.declared.kind.Kind.{Kind}
-use Rattle.ng_base.specs.declared.kind.Kind.TheVariants.{Hub, Hole, Echo, Tee, Split, One2many, Bridge, Vlan, Patch, Bpf, Ether, Socket}
+use Rattle.ng_base.specs.declared.kind.Kind.TheVariants.{Hub, Hole, Echo, Tee, Split, One2many, Bridge, Vlan, Patch, Bpf, Ether, Socket, Etf, Macset}
 
 abbrev pub kinds : List Kind
-kinds = Hub ∷ Hole ∷ Echo ∷ Tee ∷ Split ∷ One2many ∷ Bridge ∷ Vlan ∷ Patch ∷ Bpf ∷ Ether ∷ Socket ∷ []
+kinds = Hub ∷ Hole ∷ Echo ∷ Tee ∷ Split ∷ One2many ∷ Bridge ∷ Vlan ∷ Patch ∷ Bpf ∷ Ether ∷ Socket ∷ Etf ∷ Macset ∷ []
 
 abbrev pub kind_text : Kind → List ℕ
 kind_text Hub = codes "hub"
@@ -20,6 +20,8 @@ kind_text Patch = codes "patch"
 kind_text Bpf = codes "bpf"
 kind_text Ether = codes "ether"
 kind_text Socket = codes "socket"
+kind_text Etf = codes "etf"
+kind_text Macset = codes "macset"
 
 -- the kind of that name
 abbrev pub kind_named : List ℕ → Option Kind
@@ -39,6 +41,12 @@ kind_number Patch = 8
 kind_number Bpf = 9
 kind_number Ether = 10
 kind_number Socket = 11
+kind_number Etf = 12
+kind_number Macset = 13
 
 abbrev pub same_kind : Kind → Kind → Bool
 same_kind a b = kind_number a == kind_number b
+
+-- the cookie of a type's own messages: this project's numbers, in the order of the types
+abbrev pub cookie_of : Kind → ℕ
+cookie_of kind = 0x4e470001 + kind_number kind

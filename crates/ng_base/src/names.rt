@@ -1,5 +1,5 @@
 // Lists of names.
-ghost use Rattle.std.specs.Prelude.{◌≡◌, [], ◌∷◌, ◌++◌, OnOk, OnErr};
+ghost use Rattle.std.specs.Prelude.{◌≡◌, [], ◌∷◌, ◌++◌, IfOk, OnOk, OnErr};
 ghost use Rattle.ng_base.specs.Names.{has_name, without_name};
 
 use crate::{Name, NoMemory};
@@ -49,13 +49,25 @@ impl Names {
     /// Adds a name at the end.
     ///
     /// # Errors
-    /// `NoMemory` for want of memory alone; the names are then as before.
+    /// `NoMemory` where memory ran out, and for nothing else; the names are then as before.
     pub fn push(&mut self, name: Name) -> Result<(), NoMemory>
         ensures ok { OnOk result (self.new ≡ self.old ++ name ∷ []) }
         ensures err { OnErr result (self.new ≡ self.old) }
     {
         self.items.push(name)?;
         Ok(())
+    }
+
+    /// A copy of the names.
+    ///
+    /// # Errors
+    /// `NoMemory` where memory ran out, and for nothing else.
+    pub fn again(&self, alloc: Global) -> Result<Names, NoMemory>
+        ensures { IfOk result (λ names. names ≡ self.now) }
+    {
+        Ok(Names {
+            items: Vec::from_slice(alloc, &self.items)?,
+        })
     }
 
     /// Takes the name out, wherever it stands.

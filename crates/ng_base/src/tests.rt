@@ -1,5 +1,10 @@
-// Tables of names, kinds and errors, and each call that takes memory once.
-use crate::{Errno, Kind, Name, NameFault, Names, Packet, Sequence};
+// Tables of names, and each call that takes memory once.
+ghost use Rattle.std.specs.Prelude.{◌≡◌, ◌++◌, ◌∷◌, [], ◌⊎◌, OnOk, IfErr, Some};
+ghost use Rattle.ng_base.specs.Name.{name_fault};
+ghost use Rattle.ng_base.specs.declared.memory.Stop.TheVariants.{Fault as TheFault, NoMemory as out_of_memory};
+
+use crate::{Name, NameFault, Names, Packet, Sequence, Stop};
+use std::alloc::Global;
 use std::test::Fail;
 
 const LONGEST: &[u8; 31] = b"abcdefghijklmnopqrstuvwxyz01234";
@@ -41,56 +46,6 @@ fn faults_of_names_are_told(rt: HostRuntime) {
 }
 
 #[test]
-fn names_compare_by_their_bytes(rt: HostRuntime) -> Result<(), Fail> {
-    let a = Name::read(b"a")?;
-    let ab = Name::read(b"ab")?;
-    let b = Name::read(b"b")?;
-    assert!(rt; a < ab);
-    assert!(rt; ab < b);
-    assert!(rt; a == Name::read(b"a")?);
-    assert!(rt; a != ab);
-    Ok(())
-}
-
-#[test]
-fn kinds_are_the_table(rt: HostRuntime) -> Result<(), Fail> {
-    let texts = [
-        "hub", "hole", "echo", "tee", "split", "one2many", "bridge", "vlan", "patch", "bpf",
-        "ether", "socket",
-    ];
-    for (kind, text) in Kind::ALL.iter().zip(texts) {
-        assert_eq!(rt; kind.text(), text);
-        assert_eq!(rt; Kind::read(&Name::read(text.as_bytes())?), Some(*kind));
-    }
-    for text in ["Hub", "echos", "ec", "ksocket", "x"] {
-        assert_eq!(rt; Kind::read(&Name::read(text.as_bytes())?), None);
-    }
-    Ok(())
-}
-
-#[test]
-fn errors_are_the_table(rt: HostRuntime) {
-    let rows = [
-        (0, ""),
-        (1, "Operation not permitted"),
-        (2, "No such file or directory"),
-        (6, "Device not configured"),
-        (17, "File exists"),
-        (22, "Invalid argument"),
-        (23, "Too many open files in system"),
-        (40, "Message too long"),
-        (45, "Operation not supported"),
-        (48, "Address already in use"),
-        (56, "Socket is already connected"),
-        (57, "Socket is not connected"),
-        (3, ""),
-    ];
-    for (number, text) in rows {
-        assert_eq!(rt; Errno(number).text(), text);
-    }
-}
-
-#[test]
 fn packets_share_their_bytes(rt: HostRuntime) -> Result<(), Fail> {
     let packet = Packet::new(rt.alloc(), &[1, 2, 3])?;
     let again = packet.again()?;
@@ -123,5 +78,37 @@ fn a_sequence_keeps_its_order(rt: HostRuntime) -> Result<(), Fail> {
     assert_eq!(rt; numbers.as_slice(), [3, 1].as_slice());
     let again = Sequence::from_vec(numbers.into_vec());
     assert_eq!(rt; again.as_slice(), [3, 1].as_slice());
+    Ok(())
+}
+
+/// Reads a name and keeps it: an error of each of the three sources, by `?`.
+fn keep_name(alloc: Global, bytes: &[u8], names: &mut Names) -> Result<Packet, Stop<NameFault>>
+    ensures ok { OnOk result (names.new ≡ names.old ++ bytes.now ∷ []) }
+    ensures err { IfErr result (λ stop. (stop ≡ out_of_memory)
+        ⊎ ((fault : NameFault) × ((stop ≡ TheFault fault) × (name_fault bytes.now ≡ Some fault)))) }
+{
+    let name = Name::read(bytes).map_err(Stop::Fault)?;
+    let copied = Vec::from_slice(alloc, name.bytes())?;
+    let mut one = Vec::new(alloc);
+    one.push(copied.len())?;
+    names.push(name)?;
+    Ok(Packet::new(alloc, copied.as_slice())?)
+}
+
+#[test]
+fn a_stop_is_a_fault_or_no_memory(rt: HostRuntime) -> Result<(), Fail> {
+    let mut names = Names::new(rt.alloc());
+    let kept = keep_name(rt.alloc(), b"a", &mut names)?;
+    assert_eq!(rt; kept.bytes(), b"a".as_slice());
+    assert_eq!(rt;
+        keep_name(rt.alloc(), b"a.", &mut names).err(),
+        Some(Stop::Fault(NameFault::BadByte(1)))
+    );
+    let fault: Stop<NameFault> = Stop::Fault(NameFault::Empty);
+    let text = format!(in rt.alloc(); "{fault}")?;
+    assert_eq!(rt; text.as_str(), "empty");
+    let memory: Stop<NameFault> = Stop::NoMemory;
+    let text = format!(in rt.alloc(); "{memory}")?;
+    assert_eq!(rt; text.as_str(), "out of memory");
     Ok(())
 }

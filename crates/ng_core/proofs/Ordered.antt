@@ -3,7 +3,7 @@ use Rattle.std.proofs.Common.{◌≡◌, ℕ, ◌+◌, ◌-◌, List, length, ta
 use Rattle.std.proofs.lemmas.List.{length-replicate}
 use Rattle.ng_base.specs.Name.{name_fault}
 use Rattle.ng_message.specs.Fields.{name_field}
-use Rattle.ng_message.proofs.Names.{length-name}
+use Rattle.ng_base.proofs.NameLemmas.{length-name}
 
 -- a field of 32 bytes
 pub field : (args : List ℕ) (at : ℕ) → slice_range args at (at + 32) ≡ take 32 (drop at args)

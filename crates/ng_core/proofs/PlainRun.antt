@@ -8,12 +8,12 @@ use Rattle.ng_machine.specs.declared.item.Item.{Item}
 use Rattle.ng_machine.specs.Words.{Has}
 use Rattle.ng_machine.specs.World.{World}
 use Rattle.ng_machine.specs.Effect.{apply}
-use Rattle.ng_machine.specs.Feed.{Given, NoSuchMessage, feed_next}
-use Rattle.ng_machine.specs.Run.{At, Taken, beginning, after, after_all, run, stop}
+use Rattle.ng_machine.specs.Feed.{RunInput, NoSuchMessage, feed_next}
+use Rattle.ng_machine.specs.Run.{RunState, Taken, beginning, after, after_all, run, stop}
 use Rattle.ng_machine.specs.Orderly.{MayFeedNext, MayFeed, MayStop, IsTaken, MayTake, Allowed, IsOrderly, IsUnfed}
 use Rattle.ng_machine.specs.Plain.{PlainEvent, PlainFrom, IsPlain}
 use Rattle.ng_machine.proofs.Ordering.{after-append, run_from}
-use Rattle.ng_machine.proofs.Plainly.{without_one, orderly_push, plainly_push}
+use Rattle.ng_machine.proofs.PlainSteps.{without_one, orderly_push, plainly_push}
 use Rattle.ng_machine.proofs.Reached.{feeds_idle}
 use Rattle.ng_core.specs.Numbers.{most_applies}
 use Rattle.ng_core.specs.Built.{InputBuilt}
@@ -43,7 +43,7 @@ ids_low low (item ∷ items) next ids x (inl is) = let same = ap (λ (y : Item).
 ids_low low (item ∷ items) next ids x (inr has) = let more = ids_low (item.id.0 + 1) items next ids.1 x has in omega (arith, ids.0)
 
 -- something waits or is unfed, where an input is unfed unless something waits
-left_over : (known : Given) (w : World) (items : List Item) → w.pending ≡ items → (w.pending ≡ [] → IsUnfed known w) → (0 < length w.pending) ⊎ IsUnfed known w
+left_over : (known : RunInput) (w : World) (items : List Item) → w.pending ≡ items → (w.pending ≡ [] → IsUnfed known w) → (0 < length w.pending) ⊎ IsUnfed known w
 left_over known w [] is left = inr (left is)
 left_over known w (item ∷ items) is left = inl (let same : length w.pending ≡ length (item ∷ items) = ap length is in omega arith)
 
@@ -56,7 +56,7 @@ module _ (start : World) (inputs : List Input) (messages : Messages) (budget : �
   plainly_more event allowed = plainly_push (given inputs messages) (beginning start) journal event going.plainly (rw going.at allowed)
 
   at_more : (event : Event) → after_all (given inputs messages) (beginning start) (journal ++ event ∷ []) ≡ after (given inputs messages) (beginning w) event
-  at_more event = after-append (given inputs messages) (beginning start) journal (event ∷ []) ∙ ap (λ (at : At). after (given inputs messages) at event) going.at
+  at_more event = after-append (given inputs messages) (beginning start) journal (event ∷ []) ∙ ap (λ (at : RunState). after (given inputs messages) at event) going.at
 
   -- a Feed
   module _ (input : Input) (idle : w.pending ≡ []) (within : w.applies < budget) (unfed : w.fed < length inputs) (next : slice_get inputs w.fed ≡ Some input) where
@@ -132,8 +132,8 @@ module _ (start : World) (inputs : List Input) (messages : Messages) (budget : �
         let few : w.applies < most_applies = omega (arith, within, small) in
         let counts = apply_counts w item rest pending few going.sound in
         record {
-          at = after-append (given inputs messages) (beginning start) (journal ++ Take item.id 0 ∷ []) (Apply item.id ∷ []) ∙ ap (λ (at : At). after (given inputs messages) at (Apply item.id)) taken_at
-              ∙ ap (λ (taken : List Taken). let at : At = record { world = apply w item.id; taken = taken; stopped = false } in at) (without_one [] item.id 0 refl);
+          at = after-append (given inputs messages) (beginning start) (journal ++ Take item.id 0 ∷ []) (Apply item.id ∷ []) ∙ ap (λ (at : RunState). after (given inputs messages) at (Apply item.id)) taken_at
+              ∙ ap (λ (taken : List Taken). let at : RunState = record { world = apply w item.id; taken = taken; stopped = false } in at) (without_one [] item.id 0 refl);
           orderly = apply_orderly;
           plainly = plainly_push (given inputs messages) (beginning start) (journal ++ Take item.id 0 ∷ []) (Apply item.id) (plainly_more (Take item.id 0) refl) tt;
           sound = apply_sound w item rest pending few going.sound;
@@ -171,14 +171,14 @@ module _ (start : World) (inputs : List Input) (messages : Messages) (budget : �
     }
 
     pub stop_world : stop w ≡ run (given inputs messages) start (journal ++ Stop ∷ [])
-    stop_world = sym (run_from (given inputs messages) (beginning start) (journal ++ Stop ∷ []) ∙ ap (λ (at : At). at.world) (at_more Stop))
+    stop_world = sym (run_from (given inputs messages) (beginning start) (journal ++ Stop ∷ []) ∙ ap (λ (at : RunState). at.world) (at_more Stop))
 
   pub going_world : w ≡ run (given inputs messages) start journal
-  going_world = sym (run_from (given inputs messages) (beginning start) journal ∙ ap (λ (at : At). at.world) going.at)
+  going_world = sym (run_from (given inputs messages) (beginning start) journal ∙ ap (λ (at : RunState). at.world) going.at)
 
 -- Whether a journal ends stopped
 
-stays_stopped : (known : Given) (at : At) (events : List Event) → at.stopped ≡ true → (after_all known at events).stopped ≡ true
+stays_stopped : (known : RunInput) (at : RunState) (events : List Event) → at.stopped ≡ true → (after_all known at events).stopped ≡ true
 stays_stopped known at [] is = is
 stays_stopped known at (Feed ∷ events) is = stays_stopped known (after known at Feed) events is
 stays_stopped known at (Take id seat ∷ events) is = stays_stopped known (after known at (Take id seat)) events is
@@ -186,7 +186,7 @@ stays_stopped known at (Back id ∷ events) is = stays_stopped known (after know
 stays_stopped known at (Apply id ∷ events) is = stays_stopped known (after known at (Apply id)) events is
 stays_stopped known at (Stop ∷ events) is = stays_stopped known (after known at Stop) events refl
 
-pub stopped_is : (known : Given) (at : At) (events : List Event) → at.stopped ≡ false → (after_all known at events).stopped ≡ ends_stopped events
+pub stopped_is : (known : RunInput) (at : RunState) (events : List Event) → at.stopped ≡ false → (after_all known at events).stopped ≡ ends_stopped events
 stopped_is known at [] is = is
 stopped_is known at (Feed ∷ events) is = stopped_is known (after known at Feed) events is
 stopped_is known at (Take id seat ∷ events) is = stopped_is known (after known at (Take id seat)) events is
@@ -195,10 +195,10 @@ stopped_is known at (Apply id ∷ events) is = stopped_is known (after known at 
 stopped_is known at (Stop ∷ events) is = stays_stopped known (after known at Stop) events refl
 
 pub going_on : (start : World) (inputs : List Input) (messages : Messages) (budget : ℕ) (journal : List Event) (w : World) → Going start inputs messages budget journal w → false ≡ ends_stopped journal
-going_on start inputs messages budget journal w going = sym (ap (λ (at : At). at.stopped) going.at) ∙ stopped_is (given inputs messages) (beginning start) journal refl
+going_on start inputs messages budget journal w going = sym (ap (λ (at : RunState). at.stopped) going.at) ∙ stopped_is (given inputs messages) (beginning start) journal refl
 
 pub now_stopped : (start : World) (inputs : List Input) (messages : Messages) (budget : ℕ) (journal : List Event) (w : World) → Going start inputs messages budget journal w → true ≡ ends_stopped (journal ++ Stop ∷ [])
-now_stopped start inputs messages budget journal w going = sym (ap (λ (at : At). at.stopped) (at_more start inputs messages budget journal w going Stop)) ∙ stopped_is (given inputs messages) (beginning start) (journal ++ Stop ∷ []) refl
+now_stopped start inputs messages budget journal w going = sym (ap (λ (at : RunState). at.stopped) (at_more start inputs messages budget journal w going Stop)) ∙ stopped_is (given inputs messages) (beginning start) (journal ++ Stop ∷ []) refl
 
 -- What holds of the world after an event, whatever is given
 

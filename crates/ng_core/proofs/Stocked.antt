@@ -4,7 +4,7 @@ use Rattle.std.specs.List.{position_from}
 use Rattle.std.proofs.lemmas.Bool.{cases_Bool}
 use Rattle.std.proofs.lemmas.Bool.Decides.{Decides-eqb}
 use Rattle.ng_base.specs.declared.kind.Kind.{Kind}
-use Rattle.ng_base.specs.declared.kind.Kind.TheVariants.{Hub, Hole, Echo, Tee, Split, One2many, Bridge, Vlan, Patch, Bpf, Ether, Socket}
+use Rattle.ng_base.specs.declared.kind.Kind.TheVariants.{Hub, Hole, Echo, Tee, Split, One2many, Bridge, Vlan, Patch, Bpf, Ether, Socket, Etf, Macset}
 use Rattle.ng_base.specs.Kind.{kinds, kind_number, same_kind}
 use Rattle.ng_machine.specs.Stock.{has_kind}
 use Rattle.ng_core.specs.Make.{IsFirstOf}
@@ -23,6 +23,8 @@ numbered Patch = refl
 numbered Bpf = refl
 numbered Ether = refl
 numbered Socket = refl
+numbered Etf = refl
+numbered Macset = refl
 
 pub same_kind_is : (a b : Kind) → same_kind a b ≡ true → a ≡ b
 same_kind_is a b h =

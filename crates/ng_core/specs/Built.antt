@@ -1,9 +1,10 @@
 -- What the core is built to run so far: commands that make a node at the own node or write a packet, and the items that
 -- come of them. No packet is longer than the longest that is taken.
 use Rattle.std.specs.Prelude.{◌≡◌, ℕ, ◌≤◌, List, [], ◌∷◌, length, Option, Some, None}
+use Rattle.ng_base.specs.declared.ids.LinkId.{LinkId}
 use Rattle.ng_message.specs.declared.message.Msg.{Msg as Message}
 use Rattle.ng_machine.specs.declared.body.Body.{Body}
-use Rattle.ng_machine.specs.declared.body.Body.TheVariants.{Frame, Msg, Join2, Join3, Undo, Leave, Rebind, Tick}
+use Rattle.ng_machine.specs.declared.body.Body.TheVariants.{Frame, Msg, Join2, Join3, Undo, Leave, Rebind, Tick, Learn}
 use Rattle.ng_machine.specs.declared.body.Door.{Door}
 use Rattle.ng_machine.specs.declared.body.Door.TheVariants.{Wire, Hook as ByHook}
 use Rattle.ng_machine.specs.declared.command.What.{What}
@@ -13,7 +14,7 @@ use Rattle.ng_machine.specs.declared.input.Input.TheVariants.{Command, Late, Pac
 use Rattle.ng_machine.specs.declared.item.Item.{Item}
 use Rattle.ng_machine.specs.declared.told.Told.{Told}
 use Rattle.ng_machine.specs.declared.told.Told.TheVariants.{Line, Refused, Help as ToldHelp, Answer, Frame as ToldFrame}
-use Rattle.ng_machine.specs.Rules.{generic_cookie}
+use Rattle.ng_message.specs.Numbers.{generic_cookie}
 use Rattle.ng_machine.specs.Feed.{here}
 use Rattle.ng_machine.specs.World.{World}
 
@@ -23,7 +24,8 @@ most_packet = 262144
 abbrev pub Fits : List ℕ → Type 0
 Fits packet = length packet ≤ most_packet
 
--- Items: a packet by a hook, and the generic order to make a node (NGM_MKPEER of ng_message.h), which is no answer
+-- Items: a packet by a hook, the generic order to make a node (NGM_MKPEER of ng_message.h), which is no answer, and what a
+-- bridge is to learn
 
 pub record IsMakeOrder (msg : Message) : Type 0 where
   pub generic : msg.header.typecookie ≡ generic_cookie
@@ -43,18 +45,20 @@ BodyBuilt (Undo hook link errno) = ⊥
 BodyBuilt (Leave hook link) = ⊥
 BodyBuilt (Rebind hook old new peer peer_hook) = ⊥
 BodyBuilt (Tick seconds) = ⊥
+BodyBuilt (Learn hook link addr) = Unit {0}
 
--- the body is a packet that comes by this hook
-abbrev pub ComesBy : List ℕ → Body → Type 0
-ComesBy name (Frame (ByHook hook) link packet) = hook ≡ name
-ComesBy name (Frame Wire link packet) = ⊥
-ComesBy name (Msg msg) = ⊥
-ComesBy name (Join2 hook link peer peer_hook) = ⊥
-ComesBy name (Join3 hook link) = ⊥
-ComesBy name (Undo hook link errno) = ⊥
-ComesBy name (Leave hook link) = ⊥
-ComesBy name (Rebind hook old new peer peer_hook) = ⊥
-ComesBy name (Tick seconds) = ⊥
+-- the body is a packet that comes by this hook, with this link
+abbrev pub ComesBy : List ℕ → Option LinkId → Body → Type 0
+ComesBy name by (Frame (ByHook hook) link packet) = (hook ≡ name) × (link ≡ by)
+ComesBy name by (Frame Wire link packet) = ⊥
+ComesBy name by (Msg msg) = ⊥
+ComesBy name by (Join2 hook link peer peer_hook) = ⊥
+ComesBy name by (Join3 hook link) = ⊥
+ComesBy name by (Undo hook link errno) = ⊥
+ComesBy name by (Leave hook link) = ⊥
+ComesBy name by (Rebind hook old new peer peer_hook) = ⊥
+ComesBy name by (Tick seconds) = ⊥
+ComesBy name by (Learn hook link addr) = ⊥
 
 abbrev pub ItemsBuilt : List Item → Type 0
 ItemsBuilt [] = Unit {0}

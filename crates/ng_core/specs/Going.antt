@@ -6,19 +6,19 @@ use Rattle.ng_base.specs.declared.ids.ItemId.{ItemId}
 use Rattle.ng_base.specs.declared.kind.Kind.{Kind}
 use Rattle.ng_machine.specs.declared.input.Input.{Input}
 use Rattle.ng_machine.specs.declared.item.Item.{Item}
-use Rattle.ng_machine.specs.Feed.{Given, Reading}
+use Rattle.ng_machine.specs.Feed.{RunInput, Reading}
 use Rattle.ng_machine.specs.World.{World}
 use Rattle.ng_machine.specs.Run.{beginning, after_all}
 use Rattle.ng_machine.specs.Orderly.{IsOrderly}
 use Rattle.ng_machine.specs.Plain.{PlainFrom}
-use Rattle.ng_core.specs.Numbers.{IsWithin}
+use Rattle.ng_core.specs.Numbers.{IsWithin, HasFewLinks}
 use Rattle.ng_core.specs.Built.{IsBuilt}
 
 -- how the text of a message is read, for a type of node
 abbrev pub Messages : Type 0
 Messages = Kind → List ℕ → List ℕ → Reading
 
-abbrev pub given : List Input → Messages → Given
+abbrev pub given : List Input → Messages → RunInput
 given inputs messages = record { inputs = inputs; reading = messages }
 
 -- the numbers of items rise from `low` on, and stay below the next one
@@ -42,6 +42,7 @@ pub record IsSound (w : World) : Type 0 where
   pub in_order : HasIdsInOrder w
   pub within : IsWithin w
   pub built : IsBuilt w
+  pub few_links : HasFewLinks w.nodes
 
 -- the journal so far leads to this world, with nothing taken
 pub record Going (start : World) (inputs : List Input) (messages : Messages) (budget : ℕ) (journal : List Event) (w : World) : Type 0 where

@@ -1,7 +1,7 @@
 // A node as the core keeps it.
 ghost use Rattle.std.specs.Prelude.{◌≡◌, true, false, length, is_some, IsSome, IfOk, OnOk, OnErr};
-ghost use Rattle.ng_machine.specs.Case.{part_after, outcome_of};
-ghost use Rattle.ng_machine.specs.Rules.{takes_hook};
+ghost use Rattle.ng_machine.specs.Case.{kept_after, outcome_of};
+ghost use Rattle.ng_machine.specs.Rules.{accepts_hook};
 ghost use Rattle.ng_machine.specs.State.{blank_of};
 ghost use Rattle.ng_node.specs.Write.{IsWritable};
 
@@ -21,22 +21,22 @@ pub struct Entry<B: Node> {
 
 impl<B: Node> Model for Entry<B> {
     ghost use Rattle.std.specs.Prelude.{◌≡◌, map};
-    ghost use Rattle.ng_machine.specs.World.{Row};
+    ghost use Rattle.ng_machine.specs.World.{NodeRecord};
 
-    ghost Value = { Row };
+    ghost Value = { NodeRecord };
 
-    ghost view = { λ e. record { name = e.name; part = (B.state e.node).part; hooks = e.hooks.items } };
+    ghost view = { λ e. record { name = e.name; kept = (B.state e.node).kept; hooks = e.hooks.items } };
 
     ghost invariant = { λ e. map (λ h. h.name) e.hooks.items ≡ (B.state e.node).hooks };
 }
 
 impl<B: Node> Entry<B> {
-    ghost use Rattle.ng_machine.specs.World.{state_of, kind_at, hook_of, has_hook, linked, with_hook, blank_row};
+    ghost use Rattle.ng_machine.specs.World.{state_of, kind_at, hook_of, has_hook, linked_hook, with_hook, blank_node};
 
     /// A blank node, with a name or without.
     pub fn blank(alloc: Global, name: Option<Name>, node: B, _kind: Kind) -> Self
         requires { B.state node ≡ blank_of _kind }
-        ensures { result ≡ blank_row name _kind }
+        ensures { result ≡ blank_node name _kind }
     {
         Entry {
             name,
@@ -60,8 +60,8 @@ impl<B: Node> Entry<B> {
     }
 
     /// The hook of that name, if there is one with that link.
-    pub fn linked(&self, name: &Name, link: LinkId) -> Option<Hook>
-        ensures { result ≡ linked self.now name.now link }
+    pub fn linked_hook(&self, name: &Name, link: LinkId) -> Option<Hook>
+        ensures { result ≡ linked_hook self.now name.now link }
     {
         self.hooks
             .iter()
@@ -78,7 +78,7 @@ impl<B: Node> Entry<B> {
 
     /// Whether the node's type takes a hook of that name.
     pub fn takes(&self, name: &Name) -> bool
-        ensures { result ≡ takes_hook (kind_at self.now) name.now }
+        ensures { result ≡ accepts_hook (kind_at self.now) name.now }
     {
         self.node.may(name).is_ok()
     }
@@ -88,7 +88,7 @@ impl<B: Node> Entry<B> {
     /// # Errors
     /// `NoMemory` for want of memory alone; the node is then as before.
     pub fn add_hook(&mut self, alloc: Global, hook: Hook) -> Result<(), NoMemory>
-        requires allowed { takes_hook (kind_at self.old) hook.name ≡ true }
+        requires allowed { accepts_hook (kind_at self.old) hook.name ≡ true }
         requires fresh { has_hook self.old hook.name ≡ false }
         ensures ok { OnOk result (self.new ≡ with_hook self.old hook) }
         ensures err { OnErr result (self.new ≡ self.old) }
@@ -105,7 +105,7 @@ impl<B: Node> Entry<B> {
     /// `NoMemory` for want of memory alone; the node is then as before.
     pub fn write(&mut self, alloc: Global, body: &Body) -> Result<Outcome, NoMemory>
         requires { IsWritable (state_of self.old) body.now }
-        ensures after { OnOk result (self.new ≡ record self.old { part = part_after (state_of self.old) body.now }) }
+        ensures after { OnOk result (self.new ≡ record self.old { kept = kept_after (state_of self.old) body.now }) }
         ensures outcome { IfOk result (λ outcome. outcome ≡ outcome_of (state_of self.old) body.now) }
         ensures err { OnErr result (self.new ≡ self.old) }
     {

@@ -3,10 +3,11 @@ ghost use Rattle.std.specs.Prelude.{◌≡◌, ◌+◌, ◌-◌, ◌*◌, ◌^�
 ghost use Rattle.ng_base.specs.declared.ids.NodeId.{NodeId};
 ghost use Rattle.ng_base.specs.declared.ids.Stamp.{Stamp};
 ghost use Rattle.ng_message.specs.Fields.{name_field};
-ghost use Rattle.ng_machine.specs.Address.{read_address};
-ghost use Rattle.ng_machine.specs.Change.{accept, accept_at, frames, lose_no_peer, lose_node_gone, lose_full, lose_spool, send_joined, send_by, post, tell, spooled, most_spool, leave, changed, arriving, dropped_as};
-ghost use Rattle.ng_machine.specs.Effect.{exits, posts, counts_unless, is_fine, effected, is_hook_gone, lacks_link, drop_hook_gone, finish, apply};
-ghost use Rattle.ng_machine.specs.Feed.{Given, here, refuse_line, write_by, feed_command, feed_next, order_at};
+ghost use Rattle.ng_path.specs.Address.{read_address};
+ghost use Rattle.ng_base.specs.declared.cause.Cause.TheVariants.{NodeGone, NoPeer, Full, Spool};
+ghost use Rattle.ng_machine.specs.Change.{accept, accept_at, frames, lose, send_joined, send_by, post, tell, spool_with, most_spool, leave, change_all, arrival, drops_for};
+ghost use Rattle.ng_machine.specs.Effect.{exits, posts, counts_unless, learns_by, is_fine, carry_out_effect, is_hook_gone, lacks_link, drop_hook_gone, finish, apply};
+ghost use Rattle.ng_machine.specs.Feed.{RunInput, here, refuse_line, write_by, feed_command, feed_next, order_at};
 ghost use Rattle.ng_machine.specs.Generic.{mkpeer_refusal, makes, mkpeer};
 ghost use Rattle.ng_machine.specs.Retire.{refuse};
 ghost use Rattle.ng_machine.specs.Rules.{is_fixed};
@@ -14,11 +15,11 @@ ghost use Rattle.ng_machine.specs.Run.{stop};
 ghost use Rattle.ng_machine.specs.State.{kind_of, blank_of};
 ghost use Rattle.ng_machine.specs.Stock.{has_kind};
 ghost use Rattle.ng_machine.specs.Totals.{totals_of, hook_total};
-ghost use Rattle.ng_machine.specs.World.{World, Row, row_at, hook_at, kind_at, linked, start_of, own_node};
+ghost use Rattle.ng_machine.specs.World.{World, NodeRecord, node_at, hook_at, kind_at, linked_hook, start_of, own_node};
 ghost use Rattle.ng_core.specs.Built.{BodyBuilt, ComesBy, IsMakeOrder, WhatBuilt, InputBuilt};
 ghost use Rattle.ng_core.specs.Going.{first_id, Messages, given, IsSound};
 ghost use Rattle.ng_core.specs.Make.{IsMakeable};
-ghost use Rattle.ng_core.specs.Numbers.{made, HasRoom};
+ghost use Rattle.ng_core.specs.Numbers.{made, HasFewLinks, HasRoom};
 
 use crate::nodes::{entry_in, hang, hook_in, kind_in, write_in};
 use crate::orders::{make_order, read_make_order};
@@ -125,13 +126,13 @@ fn lacks_link<B: Node>(entry: &Entry<B>, hook: &Name, link: Option<LinkId>) -> b
     ensures { result ≡ lacks_link entry.now hook.now link }
 {
     match link {
-        Some(link) => entry.linked(hook, link).is_none(),
+        Some(link) => entry.linked_hook(hook, link).is_none(),
         None => true,
     }
 }
 
-fn arriving(hook: Hook, packet: Packet) -> Body
-    ensures { result ≡ arriving hook packet }
+fn arrival(hook: Hook, packet: Packet) -> Body
+    ensures { result ≡ arrival hook packet }
 {
     Body::Frame {
         door: Door::Hook(hook.peer.hook),
@@ -142,7 +143,7 @@ fn arriving(hook: Hook, packet: Packet) -> Body
 
 // Notes that each item is dropped at the limit of applied items, in order.
 fn drop_at_budget(dropped: &mut Vec<(ItemId, Cause)>, pending: Pending) -> Result<(), NoMemory>
-    ensures { OnOk result (dropped.new.items ≡ dropped.old.items ++ dropped_as Cause.Budget pending) }
+    ensures { OnOk result (dropped.new.items ≡ dropped.old.items ++ drops_for Cause.Budget pending) }
 {
     for item in pending.into_items() {
         dropped.push((item.id, Cause::Budget))?;
@@ -272,28 +273,28 @@ impl<B: Node> Core<B> {
 
     fn lose_no_peer(&mut self)
         requires { made self.old < 2 ^ 63 }
-        ensures { self.new ≡ lose_no_peer self.old }
+        ensures { self.new ≡ lose NoPeer self.old }
     {
         self.lost.no_peer += 1;
     }
 
     fn lose_node_gone(&mut self)
         requires { made self.old < 2 ^ 63 }
-        ensures { self.new ≡ lose_node_gone self.old }
+        ensures { self.new ≡ lose NodeGone self.old }
     {
         self.lost.node_gone += 1;
     }
 
     fn lose_full(&mut self)
         requires { made self.old < 2 ^ 63 }
-        ensures { self.new ≡ lose_full self.old }
+        ensures { self.new ≡ lose Full self.old }
     {
         self.lost.full += 1;
     }
 
     fn lose_spool(&mut self)
         requires { made self.old < 2 ^ 63 }
-        ensures { self.new ≡ lose_spool self.old }
+        ensures { self.new ≡ lose Spool self.old }
     {
         self.lost.spool += 1;
     }
@@ -314,7 +315,7 @@ impl<B: Node> Core<B> {
             self.lose_full();
             return Ok(());
         }
-        self.accept(hook.peer.node, kind, arriving(hook, packet), None, stamp)
+        self.accept(hook.peer.node, kind, arrival(hook, packet), None, stamp)
     }
 
     fn post(
@@ -356,14 +357,14 @@ impl<B: Node> Core<B> {
         requires spool { self.old.spool ≤ most_spool }
         ensures { OnOk result (self.new ≡ leave self.old _at _stamp exit hook packet) }
     {
-        let spooled = self.spool + (16 + packet.bytes().len() as u64);
+        let spool_with = self.spool + (16 + packet.bytes().len() as u64);
         match exit {
             Exit::Host => {}
-            Exit::Wire | Exit::Reader if spooled > MOST_SPOOL => self.lose_spool(),
-            Exit::Wire => self.spool = spooled,
+            Exit::Wire | Exit::Reader if spool_with > MOST_SPOOL => self.lose_spool(),
+            Exit::Wire => self.spool = spool_with,
             Exit::Reader => {
                 self.told.push(Told::Frame { hook, packet })?;
-                self.spool = spooled;
+                self.spool = spool_with;
             }
         }
         Ok(())
@@ -371,7 +372,7 @@ impl<B: Node> Core<B> {
 
     fn count_refused(&mut self, errno: Errno)
         requires { made self.old < 2 ^ 63 }
-        ensures world { (at : NodeId) (stamp : Stamp) → self.new ≡ changed at stamp self.old (counts_unless (is_fine errno)) }
+        ensures world { (at : NodeId) (stamp : Stamp) → self.new ≡ change_all at stamp self.old (counts_unless (is_fine errno)) }
         ensures room { made self.new ≤ made self.old + 1 }
     {
         if errno.0 != 0 {
@@ -392,7 +393,7 @@ impl<B: Node> Core<B> {
 
     // Tells an error for a tag; where no command waits it is told to nobody.
     fn refuse(&mut self, alloc: Global, tag: Option<u32>, errno: Errno) -> Result<(), NoMemory>
-        ensures { (at : NodeId) (stamp : Stamp) → OnOk result (self.new ≡ changed at stamp self.old (refuse tag errno)) }
+        ensures { (at : NodeId) (stamp : Stamp) → OnOk result (self.new ≡ change_all at stamp self.old (refuse tag errno)) }
     {
         match tag {
             Some(command) => self.refuse_line(alloc, command, errno),
@@ -409,7 +410,7 @@ impl<B: Node> Core<B> {
     ) -> Result<(), NoMemory>
         requires room { made self.old + length leaves.items < 2 ^ 63 }
         requires spool { self.old.spool ≤ most_spool }
-        ensures world { OnOk result (self.new ≡ changed at stamp self.old (exits hook leaves.items)) }
+        ensures world { OnOk result (self.new ≡ change_all at stamp self.old (exits hook leaves.items)) }
         ensures room { OnOk result (made self.new ≤ made self.old + length leaves.items) }
     {
         for (exit, packet) in leaves {
@@ -425,7 +426,7 @@ impl<B: Node> Core<B> {
         sends: Vec<(Name, Packet)>,
     ) -> Result<(), NoMemory>
         requires { made self.old + length sends.items < 2 ^ 63 }
-        ensures { OnOk result (self.new ≡ changed at stamp self.old (posts sends.items)) }
+        ensures { OnOk result (self.new ≡ change_all at stamp self.old (posts sends.items)) }
     {
         for (hook, packet) in sends {
             self.post(at, &hook, packet, stamp)?;
@@ -433,45 +434,105 @@ impl<B: Node> Core<B> {
         Ok(())
     }
 
-    // What comes of a packet at its node: packets leave, a refusal is counted, packets are sent.
+    // What a bridge is to learn waits for the bridge itself, with the hook and link of the packet.
+    fn accept_learn(
+        &mut self,
+        at: NodeId,
+        stamp: Stamp,
+        hook: Name,
+        link: Option<LinkId>,
+        addr: Option<[u8; 6]>,
+    ) -> Result<(), NoMemory>
+        requires { made self.old < 2 ^ 63 }
+        ensures world { OnOk result (self.new ≡ change_all at stamp self.old (learns_by at hook link addr)) }
+        ensures room { OnOk result (made self.new ≤ made self.old + 1) }
+    {
+        let (Some(link), Some(addr)) = (link, addr) else {
+            return Ok(());
+        };
+        let Some(kind) = kind_in(&self.nodes, at) else {
+            return Ok(());
+        };
+        self.accept(at, kind, Body::Learn { hook, link, addr }, None, stamp)
+    }
+
+    // What comes of a packet at its node: packets leave, a refusal is counted, an address waits to be learned, packets
+    // are sent.
     #[tactic(auto, using(crate::proofs::Few::changed_append))]
     fn spread(
         &mut self,
         at: NodeId,
         stamp: Stamp,
         hook: Name,
+        link: Option<LinkId>,
         outcome: Outcome,
     ) -> Result<(), NoMemory>
-        requires room { made self.old + (length outcome.leaves + (1 + length outcome.sends)) < 2 ^ 63 }
+        requires room { made self.old + (length outcome.leaves + (1 + (1 + length outcome.sends))) < 2 ^ 63 }
         requires spool { self.old.spool ≤ most_spool }
-        ensures { OnOk result (self.new ≡ changed at stamp self.old (exits hook outcome.leaves ++ (counts_unless (is_fine outcome.errno) ++ posts outcome.sends))) }
+        ensures { OnOk result (self.new ≡ change_all at stamp self.old (exits hook outcome.leaves ++ (counts_unless (is_fine outcome.errno) ++ (learns_by at hook link outcome.learn ++ posts outcome.sends)))) }
     {
         let Outcome {
             sends,
             leaves,
             answer: _,
             counts: _,
+            learn,
             errno,
         } = outcome;
         self.leave_all(at, stamp, hook, leaves.into_vec())?;
         self.count_refused(errno);
+        self.accept_learn(at, stamp, hook, link, learn)?;
         self.post_all(at, stamp, sends.into_vec())
     }
 
     // A packet that comes by a hook of its node.
-    fn serve(&mut self, alloc: Global, item: &Item, hook: Name) -> Result<(), NoMemory>
-        requires there { IsSome (row_at self.old item.now.to) }
-        requires comes { ComesBy hook item.now.body }
-        requires here { is_hook_gone (row_at self.old item.now.to) item.now.body ≡ false }
+    fn serve(
+        &mut self,
+        alloc: Global,
+        item: &Item,
+        hook: Name,
+        link: Option<LinkId>,
+    ) -> Result<(), NoMemory>
+        requires there { IsSome (node_at self.old item.now.to) }
+        requires comes { ComesBy hook link item.now.body }
+        requires built { BodyBuilt item.now.body }
+        requires here { is_hook_gone (node_at self.old item.now.to) item.now.body ≡ false }
         requires room { HasRoom self.old }
-        ensures { OnOk result (self.new ≡ effected self.old item.now) }
+        requires few_links { HasFewLinks self.old.nodes }
+        ensures { OnOk result (self.new ≡ carry_out_effect self.old item.now) }
     {
         let outcome = write_in(alloc, &mut self.nodes, item.to, &item.body)?;
-        self.spread(item.to, item.stamp, hook, outcome)
+        self.spread(item.to, item.stamp, hook, link, outcome)
+    }
+
+    // What a bridge is to learn, where the hook is there with its link. Another type keeps nothing of it.
+    fn learn(
+        &mut self,
+        alloc: Global,
+        item: &Item,
+        hook: &Name,
+        link: LinkId,
+        _addr: &[u8; 6],
+    ) -> Result<(), NoMemory>
+        requires there { IsSome (node_at self.old item.now.to) }
+        requires brings { item.now.body ≡ Body.Learn hook.now link _addr.now }
+        ensures { OnOk result (self.new ≡ carry_out_effect self.old item.now) }
+    {
+        let Some(entry) = entry_in(&self.nodes, item.to) else {
+            unreachable!()
+        };
+        if entry.linked_hook(hook, link).is_none() {
+            return Ok(());
+        }
+        if entry.kind().number() != Kind::Bridge.number() {
+            return Ok(());
+        }
+        write_in(alloc, &mut self.nodes, item.to, &item.body)?;
+        Ok(())
     }
 
     fn is_hook_gone(&self, item: &Item) -> bool
-        ensures { result ≡ is_hook_gone (row_at self.now item.now.to) item.now.body }
+        ensures { result ≡ is_hook_gone (node_at self.now item.now.to) item.now.body }
     {
         let Some(entry) = entry_in(&self.nodes, item.to) else {
             return false;
@@ -492,7 +553,8 @@ impl<B: Node> Core<B> {
             | Body::Undo { .. }
             | Body::Leave { .. }
             | Body::Rebind { .. }
-            | Body::Tick(_) => false,
+            | Body::Tick(_)
+            | Body::Learn { .. } => false,
         }
     }
 
@@ -513,7 +575,7 @@ impl<B: Node> Core<B> {
     ) -> Result<(), NoMemory>
         requires may { IsMakeable self.old.nodes self.old.stock item.now.to kind ours theirs }
         requires room { HasRoom self.old }
-        ensures { (row : Row) → row_at self.old item.now.to ≡ Some row → OnOk result (self.new ≡ changed item.now.to item.now.stamp self.old (makes self.old item.now row kind ours theirs)) }
+        ensures { (row : NodeRecord) → node_at self.old item.now.to ≡ Some row → OnOk result (self.new ≡ change_all item.now.to item.now.stamp self.old (makes self.old item.now row kind ours theirs)) }
     {
         hang(
             alloc,
@@ -537,9 +599,9 @@ impl<B: Node> Core<B> {
         ours: Name,
         theirs: Name,
     ) -> Result<(), NoMemory>
-        requires there { IsSome (row_at self.old item.now.to) }
+        requires there { IsSome (node_at self.old item.now.to) }
         requires room { HasRoom self.old }
-        ensures { (row : Row) → row_at self.old item.now.to ≡ Some row → OnOk result (self.new ≡ changed item.now.to item.now.stamp self.old (mkpeer self.old item.now row (Some kind) ours theirs)) }
+        ensures { (row : NodeRecord) → node_at self.old item.now.to ≡ Some row → OnOk result (self.new ≡ change_all item.now.to item.now.stamp self.old (mkpeer self.old item.now row (Some kind) ours theirs)) }
     {
         let Some(entry) = entry_in(&self.nodes, item.to) else {
             unreachable!()
@@ -552,11 +614,11 @@ impl<B: Node> Core<B> {
 
     // The generic order to make a node.
     fn order(&mut self, alloc: Global, item: &Item, msg: &Msg) -> Result<(), NoMemory>
-        requires there { IsSome (row_at self.old item.now.to) }
+        requires there { IsSome (node_at self.old item.now.to) }
         requires brings { item.now.body ≡ Body.Msg msg.now }
         requires order { IsMakeOrder msg.now }
         requires room { HasRoom self.old }
-        ensures { OnOk result (self.new ≡ effected self.old item.now) }
+        ensures { OnOk result (self.new ≡ carry_out_effect self.old item.now) }
     {
         let Some(order) = read_make_order(msg.args.0.as_slice()) else {
             return self.refuse(alloc, item.tag, Errno::INVAL);
@@ -571,9 +633,10 @@ impl<B: Node> Core<B> {
     #[tactic(auto, using(crate::proofs::Effects::none_effected))]
     fn carry_out(&mut self, alloc: Global, item: &Item) -> Result<(), NoMemory>
         requires built { BodyBuilt item.now.body }
-        requires here { is_hook_gone (row_at self.old item.now.to) item.now.body ≡ false }
+        requires here { is_hook_gone (node_at self.old item.now.to) item.now.body ≡ false }
         requires room { HasRoom self.old }
-        ensures { OnOk result (self.new ≡ effected self.old item.now) }
+        requires few_links { HasFewLinks self.old.nodes }
+        ensures { OnOk result (self.new ≡ carry_out_effect self.old item.now) }
     {
         if entry_in(&self.nodes, item.to).is_none() {
             return Ok(());
@@ -581,9 +644,11 @@ impl<B: Node> Core<B> {
         match &item.body {
             Body::Frame {
                 door: Door::Hook(hook),
+                link,
                 ..
-            } => self.serve(alloc, item, *hook),
+            } => self.serve(alloc, item, *hook, *link),
             Body::Msg(msg) => self.order(alloc, item, msg),
+            Body::Learn { hook, link, addr } => self.learn(alloc, item, hook, *link, addr),
             Body::Frame {
                 door: Door::Wire,
                 ..
@@ -616,7 +681,7 @@ impl<B: Node> Core<B> {
     pub fn apply_first(&mut self, alloc: Global) -> Result<(), NoMemory>
         requires pending { 0 < length self.old.pending }
         requires room { HasRoom self.old }
-        requires counted { self.old.applies < 2 ^ 62 }
+        requires with_count { self.old.applies < 2 ^ 62 }
         requires sound { IsSound self.old }
         ensures { IfSome (first_id self.old) (λ id. OnOk result (self.new ≡ apply self.old id)) }
     {
@@ -658,7 +723,7 @@ impl<B: Node> Core<B> {
         bytes: &[u8],
     ) -> Result<(), NoMemory>
         requires { made self.old < 2 ^ 63 }
-        ensures { OnOk result (self.new ≡ write_by self.old command (hook_at (row_at self.old own_node) hook.now) bytes.now) }
+        ensures { OnOk result (self.new ≡ write_by self.old command (hook_at (node_at self.old own_node) hook.now) bytes.now) }
     {
         let Some(hook) = hook_in(&self.nodes, OWN, hook) else {
             return self.refuse_line(alloc, command, Errno::NOTCONN);
@@ -671,13 +736,13 @@ impl<B: Node> Core<B> {
         };
         let packet = Packet::new(alloc, bytes)?;
         let clock = self.clock;
-        self.accept(hook.peer.node, kind, arriving(hook, packet), None, clock)
+        self.accept(hook.peer.node, kind, arrival(hook, packet), None, clock)
     }
 
     fn feed_command(&mut self, alloc: Global, command: &Command) -> Result<(), NoMemory>
         requires room { made self.old < 2 ^ 63 }
         requires built { WhatBuilt command.now.what }
-        ensures { (g : Given) → OnOk result (self.new ≡ feed_command g self.old command.now) }
+        ensures { (g : RunInput) → OnOk result (self.new ≡ feed_command g self.old command.now) }
     {
         self.command = command.number;
         self.tell(Told::Line {
@@ -703,7 +768,7 @@ impl<B: Node> Core<B> {
     /// `NoMemory` for want of memory alone; nothing is promised of the world then.
     pub fn feed(&mut self, alloc: Global, input: &Input) -> Result<(), NoMemory>
         requires room { HasRoom self.old }
-        requires counted { self.old.fed < 2 ^ 62 }
+        requires with_count { self.old.fed < 2 ^ 62 }
         requires built { InputBuilt input.now }
         ensures { (inputs : List Input) (messages : Messages) → OnOk result (self.new ≡ feed_next (given inputs messages) self.old (Some input.now)) }
     {

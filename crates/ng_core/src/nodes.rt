@@ -1,10 +1,10 @@
 // The nodes by their numbers.
 ghost use Rattle.std.specs.Prelude.{◌≡◌, ◌<◌, ◌-◌, ◌^◌, ◌++◌, ◌∷◌, [], true, false, length, slice_set, IsSome, IfOk, OnOk, Some, None};
 ghost use Rattle.std.specs.Option.{option_map, option_copied};
-ghost use Rattle.ng_machine.specs.Case.{part_after, outcome_of};
-ghost use Rattle.ng_machine.specs.Rules.{takes_hook};
+ghost use Rattle.ng_machine.specs.Case.{kept_after, outcome_of};
+ghost use Rattle.ng_machine.specs.Rules.{accepts_hook};
 ghost use Rattle.ng_machine.specs.Stock.{has_kind, without_kind};
-ghost use Rattle.ng_machine.specs.World.{Row, blank_row, row_in, hook_at, has_hook, kind_at, state_of, with_hook, new_hook, link_id, node_id};
+ghost use Rattle.ng_machine.specs.World.{NodeRecord, blank_node, node_in, hook_at, has_hook, kind_at, state_of, with_hook, new_hook, link_id, node_id};
 ghost use Rattle.ng_node.specs.Write.{IsWritable};
 ghost use Rattle.ng_core.specs.Make.{IsMakeable};
 
@@ -16,7 +16,7 @@ use std::alloc::Global;
 
 /// The node of that number, if there is one.
 pub fn entry_in<B: Node>(nodes: &[Option<Entry<B>>], id: NodeId) -> Option<&Entry<B>>
-    ensures { option_copied result ≡ row_in nodes.now id }
+    ensures { option_copied result ≡ node_in nodes.now id }
 {
     match nodes.get(id.0 as usize) {
         Some(Some(entry)) => Some(entry),
@@ -26,7 +26,7 @@ pub fn entry_in<B: Node>(nodes: &[Option<Entry<B>>], id: NodeId) -> Option<&Entr
 
 /// The kind of the node of that number, if there is one.
 pub fn kind_in<B: Node>(nodes: &[Option<Entry<B>>], id: NodeId) -> Option<Kind>
-    ensures { result ≡ option_map kind_at (row_in nodes.now id) }
+    ensures { result ≡ option_map kind_at (node_in nodes.now id) }
 {
     let entry = entry_in(nodes, id)?;
     Some(entry.kind())
@@ -34,7 +34,7 @@ pub fn kind_in<B: Node>(nodes: &[Option<Entry<B>>], id: NodeId) -> Option<Kind>
 
 /// The hook of that name at the node of that number, if both are there.
 pub fn hook_in<B: Node>(nodes: &[Option<Entry<B>>], id: NodeId, name: &Name) -> Option<Hook>
-    ensures { result ≡ hook_at (row_in nodes.now id) name.now }
+    ensures { result ≡ hook_at (node_in nodes.now id) name.now }
 {
     let entry = entry_in(nodes, id)?;
     entry.hook(name)
@@ -47,10 +47,10 @@ fn add_hook_in<B: Node>(
     id: NodeId,
     hook: Hook,
 ) -> Result<(), NoMemory>
-    requires there { IsSome (row_in nodes.old.items id) }
-    requires allowed { (row : Row) → row_in nodes.old.items id ≡ Some row → takes_hook (kind_at row) hook.name ≡ true }
-    requires fresh { (row : Row) → row_in nodes.old.items id ≡ Some row → has_hook row hook.name ≡ false }
-    ensures { (row : Row) → row_in nodes.old.items id ≡ Some row → OnOk result (nodes.new.items ≡ slice_set nodes.old.items id.0 (Some (with_hook row hook))) }
+    requires there { IsSome (node_in nodes.old.items id) }
+    requires allowed { (row : NodeRecord) → node_in nodes.old.items id ≡ Some row → accepts_hook (kind_at row) hook.name ≡ true }
+    requires fresh { (row : NodeRecord) → node_in nodes.old.items id ≡ Some row → has_hook row hook.name ≡ false }
+    ensures { (row : NodeRecord) → node_in nodes.old.items id ≡ Some row → OnOk result (nodes.new.items ≡ slice_set nodes.old.items id.0 (Some (with_hook row hook))) }
 {
     match &mut nodes[id.0 as usize] {
         Some(entry) => entry.add_hook(alloc, hook),
@@ -68,10 +68,10 @@ pub fn write_in<B: Node>(
     id: NodeId,
     body: &Body,
 ) -> Result<Outcome, NoMemory>
-    requires there { IsSome (row_in nodes.old.items id) }
-    requires arrives { (row : Row) → row_in nodes.old.items id ≡ Some row → IsWritable (state_of row) body.now }
-    ensures outcome { (row : Row) → row_in nodes.old.items id ≡ Some row → IfOk result (λ outcome. outcome ≡ outcome_of (state_of row) body.now) }
-    ensures after { (row : Row) → row_in nodes.old.items id ≡ Some row → OnOk result (nodes.new.items ≡ slice_set nodes.old.items id.0 (Some (record row { part = part_after (state_of row) body.now }))) }
+    requires there { IsSome (node_in nodes.old.items id) }
+    requires arrives { (row : NodeRecord) → node_in nodes.old.items id ≡ Some row → IsWritable (state_of row) body.now }
+    ensures outcome { (row : NodeRecord) → node_in nodes.old.items id ≡ Some row → IfOk result (λ outcome. outcome ≡ outcome_of (state_of row) body.now) }
+    ensures after { (row : NodeRecord) → node_in nodes.old.items id ≡ Some row → OnOk result (nodes.new.items ≡ slice_set nodes.old.items id.0 (Some (record row { kept = kept_after (state_of row) body.now }))) }
 {
     match &mut nodes[id.0 as usize] {
         Some(entry) => entry.write(alloc, body),
@@ -98,8 +98,8 @@ fn sprout<B: Node>(
     hook: Hook,
 ) -> Result<Entry<B>, NoMemory>
     requires left { has_kind stock.old kind ≡ true }
-    requires takes { takes_hook kind hook.name ≡ true }
-    ensures entry { IfOk result (λ entry. entry ≡ with_hook (blank_row None kind) hook) }
+    requires takes { accepts_hook kind hook.name ≡ true }
+    ensures entry { IfOk result (λ entry. entry ≡ with_hook (blank_node None kind) hook) }
     ensures stock { OnOk result (stock.new ≡ without_kind stock.old kind) }
 {
     let Some(blank) = stock.take(kind) else {
@@ -126,7 +126,7 @@ pub fn hang<B: Node>(
 ) -> Result<(), NoMemory>
     requires may { IsMakeable nodes.old.items stock.old at kind ours theirs }
     requires room { length nodes.old.items < 2 ^ 32 - 1 }
-    ensures nodes { (row : Row) → row_in nodes.old.items at ≡ Some row → OnOk result (nodes.new.items ≡ slice_set nodes.old.items at.0 (Some (with_hook row (new_hook ours (link_id link) (node_id (length nodes.old.items)) theirs true))) ++ Some (with_hook (blank_row None kind) (new_hook theirs (link_id link) at ours true)) ∷ []) }
+    ensures nodes { (row : NodeRecord) → node_in nodes.old.items at ≡ Some row → OnOk result (nodes.new.items ≡ slice_set nodes.old.items at.0 (Some (with_hook row (new_hook ours (link_id link) (node_id (length nodes.old.items)) theirs true))) ++ Some (with_hook (blank_node None kind) (new_hook theirs (link_id link) at ours true)) ∷ []) }
     ensures stock { OnOk result (stock.new ≡ without_kind stock.old kind) }
 {
     let node = NodeId(nodes.len() as u32);

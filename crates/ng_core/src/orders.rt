@@ -3,8 +3,9 @@ ghost use Rattle.std.specs.Prelude.{◌≡◌, ◌≤◌, ◌<◌, ◌^◌, ◌+
 ghost use Rattle.ng_message.specs.Fields.{name_field};
 ghost use Rattle.ng_machine.specs.Errors.{einval};
 ghost use Rattle.ng_machine.specs.Feed.{header_of};
-ghost use Rattle.ng_machine.specs.Order.{Mkpeer, read_name, read_mkpeer};
-ghost use Rattle.ng_machine.specs.Rules.{generic_cookie};
+ghost use Rattle.ng_machine.specs.Arguments.{read_name};
+ghost use Rattle.ng_machine.specs.Order.{Mkpeer, read_mkpeer};
+ghost use Rattle.ng_message.specs.Numbers.{generic_cookie};
 ghost use Rattle.ng_machine.specs.World.{own_node};
 
 use ng_base::{Bytes, Name, NoMemory, NodeId};

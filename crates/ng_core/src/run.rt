@@ -26,7 +26,7 @@ fn feed_next<B: Node>(
     requires idle { core.old.pending ≡ [] }
     requires within { core.old.applies < budget }
     requires room { HasRoom core.old }
-    requires counted { core.old.fed < 2 ^ 62 }
+    requires with_count { core.old.fed < 2 ^ 62 }
     requires sound { IsSound core.old }
     requires built { InputsBuilt inputs.now }
     ensures going { (start : World) (messages : Messages) → Going start inputs.now messages budget journal.old.items core.old → OnOk result (Going start inputs.now messages budget journal.new.items core.new) }

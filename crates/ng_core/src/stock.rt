@@ -2,7 +2,7 @@
 ghost use Rattle.std.specs.Prelude.{◌≡◌, All, map, length, true, false, IfSome, IfNone, OnSome, Ok, Err};
 ghost use Rattle.std.specs.List.{position_from};
 ghost use Rattle.ng_base.specs.Kind.{same_kind};
-ghost use Rattle.ng_machine.specs.Rules.{takes_hook};
+ghost use Rattle.ng_machine.specs.Rules.{accepts_hook};
 ghost use Rattle.ng_machine.specs.State.{kind_of, blank_of};
 ghost use Rattle.ng_machine.specs.Stock.{has_kind, without_kind};
 ghost use Rattle.ng_core.specs.Make.{IsFirstOf};
@@ -63,7 +63,7 @@ impl<B: Node> Stock<B> {
     /// Whether a node of the kind takes a hook of that name. One of the kind is left.
     pub fn takes(&self, kind: Kind, name: &Name) -> bool
         requires { has_kind self.now kind ≡ true }
-        ensures { result ≡ takes_hook kind name.now }
+        ensures { result ≡ accepts_hook kind name.now }
     {
         let Some(place) = place_of(&self.boxes, kind) else {
             unreachable!()

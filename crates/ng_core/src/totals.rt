@@ -1,8 +1,9 @@
 // The counts of a world.
 ghost use Rattle.std.specs.Prelude.{◌≡◌, ◌^◌, ◌<◌, Option, count_by, is_some};
-ghost use Rattle.ng_machine.specs.Totals.{is_node_gone, is_hook_gone, is_budget, dropped_by, hook_total};
+ghost use Rattle.ng_base.specs.declared.cause.Cause.TheVariants.{NodeGone, HookGone, Budget};
+ghost use Rattle.ng_machine.specs.Totals.{dropped_for, hook_total};
 ghost use Rattle.ng_machine.specs.Words.{times};
-ghost use Rattle.ng_machine.specs.World.{Row};
+ghost use Rattle.ng_machine.specs.World.{NodeRecord};
 ghost use Rattle.ng_core.specs.Numbers.{hooks_in};
 
 use crate::Entry;
@@ -11,7 +12,7 @@ use ng_node::Node;
 
 /// How many items were dropped because their node was removed.
 pub fn node_gone(dropped: &[(ItemId, Cause)]) -> u64
-    ensures { result ≡ dropped_by is_node_gone dropped.now }
+    ensures { result ≡ dropped_for NodeGone dropped.now }
 {
     dropped
         .iter()
@@ -21,7 +22,7 @@ pub fn node_gone(dropped: &[(ItemId, Cause)]) -> u64
 
 /// How many items were dropped because their hook was removed or had another link.
 pub fn hook_gone(dropped: &[(ItemId, Cause)]) -> u64
-    ensures { result ≡ dropped_by is_hook_gone dropped.now }
+    ensures { result ≡ dropped_for HookGone dropped.now }
 {
     dropped
         .iter()
@@ -31,7 +32,7 @@ pub fn hook_gone(dropped: &[(ItemId, Cause)]) -> u64
 
 /// How many items were dropped at the limit of applied items.
 pub fn budget(dropped: &[(ItemId, Cause)]) -> u64
-    ensures { result ≡ dropped_by is_budget dropped.now }
+    ensures { result ≡ dropped_for Budget dropped.now }
 {
     dropped
         .iter()
@@ -46,9 +47,9 @@ fn count_nodes<B: Node>(nodes: &[Option<Entry<B>>]) -> u64
 }
 
 /// How many nodes are there.
-#[tactic(auto, using(crate::proofs::Counts::counted))]
+#[tactic(auto, using(crate::proofs::Counts::with_count))]
 pub fn nodes<B: Node>(nodes: &[Option<Entry<B>>]) -> u64
-    ensures { result ≡ times (λ (row : Option Row). is_some row) nodes.now }
+    ensures { result ≡ times (λ (row : Option NodeRecord). is_some row) nodes.now }
 {
     count_nodes(nodes)
 }

@@ -5,9 +5,10 @@ use Rattle.std.specs.Str.{bytes_eq}
 use Rattle.ng_base.specs.declared.ids.ItemId.{ItemId}
 use Rattle.ng_base.specs.declared.ids.NodeId.{NodeId}
 use Rattle.ng_base.specs.declared.kind.Kind.{Kind}
-use Rattle.ng_base.specs.declared.kind.Kind.TheVariants.{Hub, Hole, Echo, Tee, Split, One2many, Bridge, Vlan, Patch, Bpf, Ether, Socket}
+use Rattle.ng_message.specs.Numbers.{is_reader_number}
+use Rattle.ng_base.specs.declared.kind.Kind.TheVariants.{Hub, Hole, Echo, Tee, Split, One2many, Bridge, Vlan, Patch, Bpf, Ether, Socket, Etf, Macset}
 use Rattle.ng_machine.specs.declared.body.Body.{Body}
-use Rattle.ng_machine.specs.declared.body.Body.TheVariants.{Frame, Msg, Join2, Join3, Undo, Leave, Rebind, Tick}
+use Rattle.ng_machine.specs.declared.body.Body.TheVariants.{Frame, Msg, Join2, Join3, Undo, Leave, Rebind, Tick, Learn}
 use Rattle.ng_machine.specs.declared.body.Door.{Door}
 use Rattle.ng_machine.specs.declared.body.Door.TheVariants.{Wire, Hook as ByHook}
 use Rattle.ng_machine.specs.declared.body.Lane.{Lane}
@@ -23,6 +24,7 @@ is_frame (Undo hook link errno) = false
 is_frame (Leave hook link) = false
 is_frame (Rebind hook old new peer peer_hook) = false
 is_frame (Tick seconds) = false
+is_frame (Learn hook link addr) = false
 
 abbrev pub is_tick : Body → Bool
 is_tick (Tick seconds) = true
@@ -33,11 +35,12 @@ is_tick (Join3 hook link) = false
 is_tick (Undo hook link errno) = false
 is_tick (Leave hook link) = false
 is_tick (Rebind hook old new peer peer_hook) = false
+is_tick (Learn hook link addr) = false
 
--- a packet changes the state of these kinds, so it wants such a node alone: one2many counts by turns, a bridge learns
+-- a packet changes more than counters of this kind, so it wants such a node alone: one2many deals packets out by turns
 abbrev pub writes_by_packets : Kind → Bool
 writes_by_packets One2many = true
-writes_by_packets Bridge = true
+writes_by_packets Bridge = false
 writes_by_packets Hub = false
 writes_by_packets Hole = false
 writes_by_packets Echo = false
@@ -48,10 +51,8 @@ writes_by_packets Patch = false
 writes_by_packets Bpf = false
 writes_by_packets Ether = false
 writes_by_packets Socket = false
-
--- bit 28 of a message's number says that the message changes nothing (NGM_READONLY of ng_message.h, netgraph(4))
-abbrev pub is_reader_number : ℕ → Bool
-is_reader_number number = number / 0x10000000 % 2 == 1
+writes_by_packets Etf = false
+writes_by_packets Macset = false
 
 -- the mode of a body at a node of the kind
 abbrev pub is_writer : Kind → Body → Bool
@@ -63,6 +64,7 @@ is_writer kind (Undo hook link errno) = true
 is_writer kind (Leave hook link) = true
 is_writer kind (Rebind hook old new peer peer_hook) = true
 is_writer kind (Tick seconds) = true
+is_writer kind (Learn hook link addr) = true
 
 -- packets that come by one door stay in order, and so do messages of one sender
 abbrev pub lane_of : Body → Option Lane
@@ -74,6 +76,7 @@ lane_of (Undo hook link errno) = None
 lane_of (Leave hook link) = None
 lane_of (Rebind hook old new peer peer_hook) = None
 lane_of (Tick seconds) = None
+lane_of (Learn hook link addr) = None
 
 abbrev pub same_door : Door → Door → Bool
 same_door Wire Wire = true
@@ -94,8 +97,8 @@ share_lane (Some a) None = false
 share_lane (Some a) (Some b) = same_lane a b
 
 -- two items of a node that may be worked on side by side: both are readers, and of different lanes
-abbrev pub compatible : Item → Item → Bool
-compatible a b = not a.writer && (not b.writer && not (share_lane (lane_of a.body) (lane_of b.body)))
+abbrev pub are_compatible : Item → Item → Bool
+are_compatible a b = not a.writer && (not b.writer && not (share_lane (lane_of a.body) (lane_of b.body)))
 
 abbrev pub has_id : ItemId → Item → Bool
 has_id id item = item.id.0 == id.0
@@ -110,9 +113,9 @@ abbrev pub has_tick : Item → Bool
 has_tick item = is_tick item.body
 
 -- a command waits for the item
-abbrev pub tagged : ℕ → Option ℕ → Bool
-tagged command None = false
-tagged command (Some tag) = tag == command
+abbrev pub is_tag : ℕ → Option ℕ → Bool
+is_tag command None = false
+is_tag command (Some tag) = tag == command
 
 abbrev pub has_tag : ℕ → Item → Bool
-has_tag command item = tagged command item.tag
+has_tag command item = is_tag command item.tag

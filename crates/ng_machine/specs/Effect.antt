@@ -9,7 +9,7 @@ use Rattle.ng_base.specs.declared.kind.Kind.TheVariants.{Socket}
 use Rattle.ng_base.specs.Kind.{same_kind}
 use Rattle.ng_message.specs.declared.message.Msg.{Msg as Message}
 use Rattle.ng_machine.specs.declared.body.Body.{Body}
-use Rattle.ng_machine.specs.declared.body.Body.TheVariants.{Frame, Msg, Join2, Join3, Undo, Leave, Rebind, Tick}
+use Rattle.ng_machine.specs.declared.body.Body.TheVariants.{Frame, Msg, Join2, Join3, Undo, Leave, Rebind, Tick, Learn}
 use Rattle.ng_machine.specs.declared.body.Door.{Door}
 use Rattle.ng_machine.specs.declared.body.Door.TheVariants.{Wire, Hook as ByHook}
 use Rattle.ng_machine.specs.declared.body.Exit.{Exit}
@@ -17,16 +17,20 @@ use Rattle.ng_machine.specs.declared.item.Item.{Item}
 use Rattle.ng_machine.specs.declared.outcome.Outcome.{Outcome}
 use Rattle.ng_machine.specs.declared.told.Told.TheVariants.{Answer}
 use Rattle.ng_machine.specs.Errors.{einval}
-use Rattle.ng_machine.specs.Rules.{cookie_of, generic_cookie}
+use Rattle.ng_message.specs.Numbers.{generic_cookie, answer_flag}
+use Rattle.ng_base.specs.Kind.{cookie_of}
 use Rattle.ng_machine.specs.Body.{has_id}
-use Rattle.ng_machine.specs.Case.{part_after, outcome_of}
-use Rattle.ng_machine.specs.World.{World, Row, row_at, kind_at, state_of, linked}
-use Rattle.ng_machine.specs.Change.{Change, Sets, Posts, Notes, Tells, Refuses, Exits, changed}
+use Rattle.ng_machine.specs.Case.{kept_after, outcome_of}
+use Rattle.ng_base.specs.declared.ids.NodeId.{NodeId}
+use Rattle.ng_machine.specs.declared.hook.Hook.{Hook}
+use Rattle.ng_machine.specs.World.{World, NodeRecord, node_at, kind_at, state_of, linked_hook}
+use Rattle.ng_machine.specs.Change.{Change, Sets, Accepts, Posts, Notes, Tells, Refuses, Exits, change_all}
 use Rattle.ng_machine.specs.Retire.{refuse}
-use Rattle.ng_machine.specs.Connect.{hook_refusal, join, settle, undo, take_away, rebind}
+use Rattle.ng_machine.specs.Connect.{hook_refusal, join, settle, undo, remove_peer_hook, rebind}
 use Rattle.ng_machine.specs.Generic.{ordered, answer}
 
--- A packet or a tick at its node: the node's part changes, then packets leave, then packets are sent.
+-- A packet or a tick at its node: the node's part changes, then packets leave, then what is to be learned waits for the
+-- node itself, with the packet's hook and link, and then packets are sent.
 
 -- the hook that what leaves came by
 abbrev pub door_name : Door → List ℕ
@@ -48,11 +52,29 @@ abbrev pub counts_unless : Bool → List Change
 counts_unless true = []
 counts_unless false = Notes Refuses ∷ []
 
-abbrev pub becomes : Row → Body → Change
-becomes row body = Sets (record row { part = part_after (state_of row) body })
+abbrev pub becomes : NodeRecord → Body → Change
+becomes node body = Sets (record node { kept = kept_after (state_of node) body })
 
-abbrev pub serve : Row → Body → List ℕ → Outcome → List Change
-serve row body hook out = becomes row body ∷ (exits hook out.leaves ++ (counts_unless (is_fine out.errno) ++ posts out.sends))
+abbrev pub learns_by : NodeId → List ℕ → Option LinkId → Option (List ℕ) → List Change
+learns_by at hook None learn = []
+learns_by at hook (Some link) None = []
+learns_by at hook (Some link) (Some addr) = Accepts at (Learn hook link addr) None ∷ []
+
+abbrev pub learns : NodeId → Door → Option LinkId → Option (List ℕ) → List Change
+learns at Wire link learn = []
+learns at (ByHook hook) link learn = learns_by at hook link learn
+
+abbrev pub serve : NodeRecord → Body → List ℕ → Outcome → List Change → List Change
+serve node body hook out learned = becomes node body ∷ (exits hook out.leaves ++ (counts_unless (is_fine out.errno) ++ (learned ++ posts out.sends)))
+
+abbrev pub pass : Item → NodeRecord → Door → Option LinkId → Body → Outcome → List Change
+pass item node door link body out = serve node body (door_name door) out (learns item.to door link out.learn)
+
+-- What a bridge learns, where the hook is there with its link.
+
+abbrev pub learn : NodeRecord → Option Hook → Body → List Change
+learn node None body = []
+learn node (Some hook) body = becomes node body ∷ []
 
 -- A message of the cookie of the node's type: where it is refused, its error is told and nothing changes.
 
@@ -60,12 +82,12 @@ abbrev pub answered : Item → Message → Option (List ℕ) → List Change
 answered item msg None = []
 answered item msg (Some bytes) = answer item msg bytes
 
-abbrev pub ruled_if : Row → Item → Message → Outcome → Bool → List Change
-ruled_if row item msg out false = refuse item.tag out.errno
-ruled_if row item msg out true = becomes row (Msg msg) ∷ (exits [] out.leaves ++ (answered item msg out.answer ++ posts out.sends))
+abbrev pub reply_changes_if : NodeRecord → Item → Message → Outcome → Bool → List Change
+reply_changes_if node item msg out false = refuse item.tag out.errno
+reply_changes_if node item msg out true = becomes node (Msg msg) ∷ (exits [] out.leaves ++ (answered item msg out.answer ++ posts out.sends))
 
-abbrev pub ruled : Row → Item → Message → Outcome → List Change
-ruled row item msg out = ruled_if row item msg out (is_fine out.errno)
+abbrev pub reply_changes : NodeRecord → Item → Message → Outcome → List Change
+reply_changes node item msg out = reply_changes_if node item msg out (is_fine out.errno)
 
 -- An answer that reaches the socket is told to the command that asked.
 
@@ -74,61 +96,63 @@ told_answer msg None = []
 told_answer msg (Some command) = Notes (Tells (Answer command msg.from msg.header.typecookie msg.header.cmd msg.args)) ∷ []
 
 -- which message it is: an answer at the socket comes first, and the generic cookie before the type's
-pub data Sort : Type 0 where
-  AnAnswer AnOrder OfKind Foreign : Sort
+pub data MessageClass : Type 0 where
+  AnAnswer AnOrder OfKind Foreign : MessageClass
 
-abbrev pub sort_by : Bool → Bool → Bool → Sort
-sort_by true generic own = AnAnswer
-sort_by false true own = AnOrder
-sort_by false false true = OfKind
-sort_by false false false = Foreign
+abbrev pub class_by : Bool → Bool → Bool → MessageClass
+class_by true generic own = AnAnswer
+class_by false true own = AnOrder
+class_by false false true = OfKind
+class_by false false false = Foreign
 
--- the flag 1 says that it is an answer (NGF_RESP of ng_message.h)
+-- the lowest bit of the flags says that it is an answer (NGF_RESP of ng_message.h)
 abbrev pub is_answer : Message → Bool
-is_answer msg = msg.header.flags % 2 == 1
+is_answer msg = msg.header.flags % 2 == answer_flag
 
-abbrev pub sort_of : Kind → Message → Sort
-sort_of kind msg = sort_by (is_answer msg && same_kind kind Socket) (msg.header.typecookie == generic_cookie) (msg.header.typecookie == cookie_of kind)
+abbrev pub class_of : Kind → Message → MessageClass
+class_of kind msg = class_by (is_answer msg && same_kind kind Socket) (msg.header.typecookie == generic_cookie) (msg.header.typecookie == cookie_of kind)
 
-abbrev pub message_by : World → Item → Row → Message → Sort → List Change
-message_by w item row msg AnAnswer = told_answer msg item.tag
-message_by w item row msg AnOrder = ordered w item row msg
-message_by w item row msg OfKind = ruled row item msg (outcome_of (state_of row) (Msg msg))
-message_by w item row msg Foreign = refuse item.tag einval
+abbrev pub message_by : World → Item → NodeRecord → Message → MessageClass → List Change
+message_by w item node msg AnAnswer = told_answer msg item.tag
+message_by w item node msg AnOrder = ordered w item node msg
+message_by w item node msg OfKind = reply_changes node item msg (outcome_of (state_of node) (Msg msg))
+message_by w item node msg Foreign = refuse item.tag einval
 
-abbrev pub message : World → Item → Row → Message → List Change
-message w item row msg = message_by w item row msg (sort_of (kind_at row) msg)
+abbrev pub message : World → Item → NodeRecord → Message → List Change
+message w item node msg = message_by w item node msg (class_of (kind_at node) msg)
 
-abbrev pub effect_at : World → Item → Row → Body → List Change
-effect_at w item row (Frame door link packet) = serve row (Frame door link packet) (door_name door) (outcome_of (state_of row) (Frame door link packet))
-effect_at w item row (Msg msg) = message w item row msg
-effect_at w item row (Join2 hook link peer peer_hook) = join item row (hook_refusal row hook) hook link peer peer_hook
-effect_at w item row (Join3 hook link) = settle row (linked row hook link)
-effect_at w item row (Undo hook link errno) = undo item row (linked row hook link) errno
-effect_at w item row (Leave hook link) = take_away w item row (linked row hook link)
-effect_at w item row (Rebind hook old new peer peer_hook) = rebind row (linked row hook old) new peer peer_hook
-effect_at w item row (Tick seconds) = serve row (Tick seconds) [] (outcome_of (state_of row) (Tick seconds))
+abbrev pub effect_at : World → Item → NodeRecord → Body → List Change
+effect_at w item node (Frame door link packet) = pass item node door link (Frame door link packet) (outcome_of (state_of node) (Frame door link packet))
+effect_at w item node (Msg msg) = message w item node msg
+effect_at w item node (Join2 hook link peer peer_hook) = join item node (hook_refusal node hook) hook link peer peer_hook
+effect_at w item node (Join3 hook link) = settle node (linked_hook node hook link)
+effect_at w item node (Undo hook link errno) = undo item node (linked_hook node hook link) errno
+effect_at w item node (Leave hook link) = remove_peer_hook w item node (linked_hook node hook link)
+effect_at w item node (Rebind hook old new peer peer_hook) = rebind node (linked_hook node hook old) new peer peer_hook
+effect_at w item node (Tick seconds) = serve node (Tick seconds) [] (outcome_of (state_of node) (Tick seconds)) []
+effect_at w item node (Learn hook link addr) = learn node (linked_hook node hook link) (Learn hook link addr)
 
-abbrev pub effect : World → Item → Option Row → List Change
+abbrev pub effect : World → Item → Option NodeRecord → List Change
 effect w item None = []
-effect w item (Some row) = effect_at w item row item.body
+effect w item (Some node) = effect_at w item node item.body
 
 -- A packet by a hook that isn't there or has another link by now is dropped.
 
-abbrev pub lacks_link : Row → List ℕ → Option LinkId → Bool
-lacks_link row hook None = true
-lacks_link row hook (Some link) = is_none (linked row hook link)
+abbrev pub lacks_link : NodeRecord → List ℕ → Option LinkId → Bool
+lacks_link node hook None = true
+lacks_link node hook (Some link) = is_none (linked_hook node hook link)
 
-abbrev pub is_hook_gone : Option Row → Body → Bool
-is_hook_gone (Some row) (Frame (ByHook hook) link packet) = lacks_link row hook link
-is_hook_gone (Some row) (Frame Wire link packet) = false
-is_hook_gone (Some row) (Msg msg) = false
-is_hook_gone (Some row) (Join2 hook link peer peer_hook) = false
-is_hook_gone (Some row) (Join3 hook link) = false
-is_hook_gone (Some row) (Undo hook link errno) = false
-is_hook_gone (Some row) (Leave hook link) = false
-is_hook_gone (Some row) (Rebind hook old new peer peer_hook) = false
-is_hook_gone (Some row) (Tick seconds) = false
+abbrev pub is_hook_gone : Option NodeRecord → Body → Bool
+is_hook_gone (Some node) (Frame (ByHook hook) link packet) = lacks_link node hook link
+is_hook_gone (Some node) (Frame Wire link packet) = false
+is_hook_gone (Some node) (Msg msg) = false
+is_hook_gone (Some node) (Join2 hook link peer peer_hook) = false
+is_hook_gone (Some node) (Join3 hook link) = false
+is_hook_gone (Some node) (Undo hook link errno) = false
+is_hook_gone (Some node) (Leave hook link) = false
+is_hook_gone (Some node) (Rebind hook old new peer peer_hook) = false
+is_hook_gone (Some node) (Tick seconds) = false
+is_hook_gone (Some node) (Learn hook link addr) = false
 is_hook_gone None body = false
 
 -- The item is no longer pending, and is done or dropped.
@@ -142,15 +166,15 @@ finish w id = record w { done = w.done ++ id ∷ [] }
 abbrev pub drop_hook_gone : World → ItemId → World
 drop_hook_gone w id = record w { dropped = w.dropped ++ (id, HookGone) ∷ [] }
 
-abbrev pub effected : World → Item → World
-effected w item = changed item.to item.stamp w (effect w item (row_at w item.to))
+abbrev pub carry_out_effect : World → Item → World
+carry_out_effect w item = change_all item.to item.stamp w (effect w item (node_at w item.to))
 
-abbrev pub applied_if : World → Item → Bool → World
-applied_if w item true = drop_hook_gone w item.id
-applied_if w item false = effected (finish w item.id) item
+abbrev pub apply_if : World → Item → Bool → World
+apply_if w item true = drop_hook_gone w item.id
+apply_if w item false = carry_out_effect (finish w item.id) item
 
 abbrev pub apply_item : World → Item → World
-apply_item w item = applied_if (take_out w item.id) item (is_hook_gone (row_at w item.to) item.body)
+apply_item w item = apply_if (take_out w item.id) item (is_hook_gone (node_at w item.to) item.body)
 
 abbrev pub apply_found : World → Option Item → World
 apply_found w None = w

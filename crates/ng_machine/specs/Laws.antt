@@ -10,11 +10,12 @@ use Rattle.ng_base.specs.declared.kind.Kind.{Kind}
 use Rattle.ng_machine.specs.declared.hook.Hook.{Hook}
 use Rattle.ng_machine.specs.declared.item.Item.{Item}
 use Rattle.ng_machine.specs.Words.{Has, times}
-use Rattle.ng_machine.specs.Body.{compatible, has_frame, has_id}
-use Rattle.ng_machine.specs.State.{Part, Way, way_of}
-use Rattle.ng_machine.specs.World.{World, Row, row_at, state_of, start_of}
-use Rattle.ng_machine.specs.Feed.{Given}
-use Rattle.ng_machine.specs.Run.{At, Taken, beginning, run, after_all}
+use Rattle.ng_machine.specs.Body.{are_compatible, has_frame, has_id}
+use Rattle.ng_machine.specs.declared.plan.Plan.{Plan}
+use Rattle.ng_machine.specs.State.{KindState, way_of}
+use Rattle.ng_machine.specs.World.{World, NodeRecord, node_at, state_of, start_of}
+use Rattle.ng_machine.specs.Feed.{RunInput}
+use Rattle.ng_machine.specs.Run.{RunState, Taken, beginning, run, after_all}
 use Rattle.ng_machine.specs.Orderly.{IsOrderly, IsWhole}
 use Rattle.ng_machine.specs.Plain.{IsPlain}
 
@@ -23,18 +24,18 @@ pub record Setting : Type 0 where
   pub own : List ℕ
   pub ports : List (List ℕ)
   pub stock : List Kind
-  pub given : Given
+  pub given : RunInput
   pub budget : ℕ
   pub seats : ℕ
 
 abbrev pub start : Setting → World
 start s = start_of s.own s.ports s.stock
 
-abbrev pub at_after : Setting → List Event → At
-at_after s journal = after_all s.given (beginning (start s)) journal
+abbrev pub run_state_after : Setting → List Event → RunState
+run_state_after s journal = after_all s.given (beginning (start s)) journal
 
 abbrev pub world_after : Setting → List Event → World
-world_after s journal = (at_after s journal).world
+world_after s journal = (run_state_after s journal).world
 
 abbrev pub IsJournal : Setting → List Event → Type 0
 IsJournal s journal = IsOrderly (start s) s.given s.budget s.seats journal
@@ -72,7 +73,7 @@ Once = (s : Setting) (journal : List Event) → IsJournal s journal → IsAccoun
 abbrev pub InOrder : Type 0
 InOrder =
     (s : Setting) (journal rest : List Event) (a b : Item) → IsJournal s (journal ++ Apply b.id ∷ rest) → Has b (world_after s journal).pending
-    → a.id.0 < b.id.0 → a.to ≡ b.to → compatible a b ≡ false → Has a (world_after s journal).pending → ⊥
+    → a.id.0 < b.id.0 → a.to ≡ b.to → are_compatible a b ≡ false → Has a (world_after s journal).pending → ⊥
 
 -- A WRITER ALONE: where a writer is taken, nothing else of its node is.
 
@@ -83,7 +84,7 @@ abbrev pub IsAlone : Type 0
 IsAlone =
     (s : Setting) (journal : List Event) (a b : Item) (i j : ℕ) → IsJournal s journal
     → Has a (world_after s journal).pending → Has b (world_after s journal).pending
-    → Has (taken_by a.id i) (at_after s journal).taken → Has (taken_by b.id j) (at_after s journal).taken
+    → Has (taken_by a.id i) (run_state_after s journal).taken → Has (taken_by b.id j) (run_state_after s journal).taken
     → a.to ≡ b.to → a.writer ≡ true → a ≡ b
 
 -- And while an item is taken, its node is there with its name and hooks as they were; for a writer with its part; for a
@@ -97,39 +98,39 @@ ends id (Back other) = other.0 == id.0
 ends id (Apply other) = other.0 == id.0
 ends id Stop = false
 
-abbrev pub name_at : Option Row → Option (Option (List ℕ))
+abbrev pub name_at : Option NodeRecord → Option (Option (List ℕ))
 name_at None = None
-name_at (Some row) = Some row.name
+name_at (Some node) = Some node.name
 
-abbrev pub hooks_at : Option Row → Option (List Hook)
+abbrev pub hooks_at : Option NodeRecord → Option (List Hook)
 hooks_at None = None
-hooks_at (Some row) = Some row.hooks
+hooks_at (Some node) = Some node.hooks
 
-abbrev pub part_at : Option Row → Option Part
-part_at None = None
-part_at (Some row) = Some row.part
+abbrev pub kept_at : Option NodeRecord → Option KindState
+kept_at None = None
+kept_at (Some node) = Some node.kept
 
-abbrev pub way_at : Option Row → Option Way
+abbrev pub way_at : Option NodeRecord → Option (Option Plan)
 way_at None = None
-way_at (Some row) = Some (way_of (state_of row))
+way_at (Some node) = Some (way_of (state_of node))
 
-pub record IsLikeBefore (item : Item) (before now : Option Row) : Type 0 where
+pub record IsLikeBefore (item : Item) (before now : Option NodeRecord) : Type 0 where
   pub there : is_some now ≡ true
   pub name : name_at now ≡ name_at before
   pub hooks : hooks_at now ≡ hooks_at before
-  pub part : item.writer ≡ true → part_at now ≡ part_at before
+  pub kept : item.writer ≡ true → kept_at now ≡ kept_at before
   pub way : has_frame item ≡ true → item.writer ≡ false → way_at now ≡ way_at before
 
 abbrev pub IsStill : Type 0
 IsStill =
     (s : Setting) (journal more : List Event) (item : Item) (seat : ℕ) → IsJournal s (journal ++ Take item.id seat ∷ more)
     → Has item (world_after s journal).pending → list_any (ends item.id) more ≡ false
-    → IsLikeBefore item (row_at (world_after s journal) item.to) (row_at (world_after s (journal ++ Take item.id seat ∷ more)) item.to)
+    → IsLikeBefore item (node_at (world_after s journal) item.to) (node_at (world_after s (journal ++ Take item.id seat ∷ more)) item.to)
 
 -- what is taken is pending
 abbrev pub TakenWaits : Type 0
 TakenWaits =
-    (s : Setting) (journal : List Event) (t : Taken) → IsJournal s journal → Has t (at_after s journal).taken
+    (s : Setting) (journal : List Event) (t : Taken) → IsJournal s journal → Has t (run_state_after s journal).taken
     → (item : Item) × Has item (world_after s journal).pending × (item.id ≡ t.id)
 
 abbrev pub WriterAlone : Type 0
@@ -139,20 +140,20 @@ WriterAlone = TakenWaits × IsAlone × IsStill
 abbrev pub TakenOnce : Type 0
 TakenOnce =
     (s : Setting) (journal : List Event) → IsJournal s journal
-    → ((id : ItemId) (i j : ℕ) → Has (taken_by id i) (at_after s journal).taken → Has (taken_by id j) (at_after s journal).taken → i ≡ j)
-    × ((a b : ItemId) (i : ℕ) → Has (taken_by a i) (at_after s journal).taken → Has (taken_by b i) (at_after s journal).taken → a ≡ b)
+    → ((id : ItemId) (i j : ℕ) → Has (taken_by id i) (run_state_after s journal).taken → Has (taken_by id j) (run_state_after s journal).taken → i ≡ j)
+    × ((a b : ItemId) (i : ℕ) → Has (taken_by a i) (run_state_after s journal).taken → Has (taken_by b i) (run_state_after s journal).taken → a ≡ b)
 
 -- WHOLE: where a journal is whole, nothing is taken: in a quiet world nothing is pending, and a Stop comes where the applied
 -- items alone are as many as may be.
 abbrev pub WholeTakesNothing : Type 0
-WholeTakesNothing = (s : Setting) (journal : List Event) → IsJournal s journal → IsWhole (start s) s.given journal → (at_after s journal).taken ≡ []
+WholeTakesNothing = (s : Setting) (journal : List Event) → IsJournal s journal → IsWhole (start s) s.given journal → (run_state_after s journal).taken ≡ []
 
 -- RETIRED: once a node is gone, no item of it is pending, so none is applied, and none is accepted later; its number is
 -- not used again.
 
 -- a number below the next one that has no node: 0, which never had one, or that of a node that went
 abbrev pub IsGone : World → NodeId → Type 0
-IsGone w id = (id.0 < length w.nodes) × (row_at w id ≡ None)
+IsGone w id = (id.0 < length w.nodes) × (node_at w id ≡ None)
 
 abbrev pub Retired : Type 0
 Retired =
@@ -165,7 +166,7 @@ Retired =
 abbrev pub IsFree : World → ItemId → Type 0
 IsFree w id =
     (item : Item) × Has item w.pending × (item.id ≡ id)
-    × ((other : Item) → Has other w.pending → other.to ≡ item.to → other.id.0 < id.0 → compatible other item ≡ true)
+    × ((other : Item) → Has other w.pending → other.to ≡ item.to → other.id.0 < id.0 → are_compatible other item ≡ true)
 
 abbrev pub Serial : Type 0
 Serial = (s : Setting) (journal rest : List Event) (id : ItemId) → IsJournal s (journal ++ Apply id ∷ rest) → IsFree (world_after s journal) id

@@ -5,8 +5,8 @@ use Rattle.ng_base.specs.declared.errno.Errno.{Errno}
 use Rattle.ng_message.specs.Fields.{field_text}
 use Rattle.ng_machine.specs.Words.{is_empty}
 use Rattle.ng_machine.specs.Errors.{einval, eopnotsupp}
-use Rattle.ng_machine.specs.Body.{is_reader_number}
-use Rattle.ng_machine.specs.Address.{is_name}
+use Rattle.ng_message.specs.Numbers.{is_reader_number, shutdown_number, mkpeer_number, connect_number, name_number, rmhook_number, text_config_number, nodeinfo_number, listhooks_number, listnames_number, listnodes_number, listtypes_number, text_status_number, binary2ascii_number, ascii2binary_number}
+use Rattle.ng_machine.specs.Arguments.{read_name}
 
 -- what asks and changes nothing
 pub data Question : Type 0 where
@@ -19,10 +19,6 @@ pub data Order : Type 0 where
   Rename : List ℕ → Order
   Rmhook : List ℕ → Order
   Asks : Question → Order
-
--- the name in the field at a place, unless what stands there is no name
-abbrev pub read_name : List ℕ → ℕ → Option (List ℕ)
-read_name args at = if is_name (field_text (take 32 (drop at args))) then Some (field_text (take 32 (drop at args))) else None
 
 abbrev pub bare : Order → List ℕ → Result Order Errno
 bare order args = if is_empty args then Ok order else Err einval
@@ -54,27 +50,27 @@ read_named make args = if length args == 32 then with_name make (read_name args 
 -- the orders that change something: shutdown 1, mkpeer 2, connect 3, name 4, rmhook 5; textconfig 14 is refused
 abbrev pub read_change : ℕ → List ℕ → Result Order Errno
 read_change number args =
-    if number == 1 then bare Shutdown args
-    else if number == 2 then read_mkpeer args
-    else if number == 3 then read_connect args
-    else if number == 4 then read_named Rename args
-    else if number == 5 then read_named Rmhook args
-    else if number == 14 then Err eopnotsupp
+    if number == shutdown_number then bare Shutdown args
+    else if number == mkpeer_number then read_mkpeer args
+    else if number == connect_number then read_connect args
+    else if number == name_number then read_named Rename args
+    else if number == rmhook_number then read_named Rmhook args
+    else if number == text_config_number then Err eopnotsupp
     else Err einval
 
-abbrev pub asking : Question → List ℕ → Result Question Errno
-asking question args = if is_empty args then Ok question else Err einval
+abbrev pub ask : Question → List ℕ → Result Question Errno
+ask question args = if is_empty args then Ok question else Err einval
 
 -- the orders that ask, each with the bits 28 and 29, which say that it reads and has an answer: nodeinfo 6, listhooks 7,
 -- listnames 8, listnodes 9, listtypes 10; textstatus 11, binary2ascii 12 and ascii2binary 13 are refused
 abbrev pub read_question : ℕ → List ℕ → Result Question Errno
 read_question number args =
-    if number == 0x30000006 then asking NodeInfo args
-    else if number == 0x30000007 then asking ListHooks args
-    else if number == 0x30000008 then asking ListNames args
-    else if number == 0x30000009 then asking ListNodes args
-    else if number == 0x3000000a then asking ListTypes args
-    else if number == 0x3000000b || (number == 0x3000000c || number == 0x3000000d) then Err eopnotsupp
+    if number == nodeinfo_number then ask NodeInfo args
+    else if number == listhooks_number then ask ListHooks args
+    else if number == listnames_number then ask ListNames args
+    else if number == listnodes_number then ask ListNodes args
+    else if number == listtypes_number then ask ListTypes args
+    else if number == text_status_number || (number == binary2ascii_number || number == ascii2binary_number) then Err eopnotsupp
     else Err einval
 
 abbrev pub as_order : Result Question Errno → Result Order Errno

@@ -3,7 +3,7 @@ use Rattle.std.specs.Prelude.{ℕ, Bool, true, false, not, ◌&&◌, ◌||◌, �
 use Rattle.ng_base.specs.declared.errno.Errno.{Errno}
 use Rattle.ng_base.specs.declared.ids.NodeId.{NodeId}
 use Rattle.ng_machine.specs.declared.body.Body.{Body}
-use Rattle.ng_machine.specs.declared.body.Body.TheVariants.{Frame, Msg, Join2, Join3, Undo, Leave, Rebind, Tick}
+use Rattle.ng_machine.specs.declared.body.Body.TheVariants.{Frame, Msg, Join2, Join3, Undo, Leave, Rebind, Tick, Learn}
 use Rattle.ng_machine.specs.declared.hook.Hook.{Hook}
 use Rattle.ng_machine.specs.declared.item.Item.{Item}
 use Rattle.ng_machine.specs.declared.told.Told.TheVariants.{Refused}
@@ -11,7 +11,7 @@ use Rattle.ng_machine.specs.Errors.{enxio}
 use Rattle.ng_machine.specs.declared.farewell.Farewell.{Farewell}
 use Rattle.ng_machine.specs.declared.farewell.Farewell.TheVariants.{Plain, Stay, Bypass}
 use Rattle.ng_machine.specs.Rules.{farewell_of, is_lasting}
-use Rattle.ng_machine.specs.World.{World, Row, is_there, is_named, hook_of, kind_at, without_hooks, link_id}
+use Rattle.ng_machine.specs.World.{World, NodeRecord, is_there, is_named, hook_of, kind_at, without_hooks, link_id}
 use Rattle.ng_machine.specs.Change.{Change, Sets, Retires, Accepts, Notes, Tells, Links, items_of}
 
 -- an error is told for a tag; where no command waits it is told to nobody
@@ -30,6 +30,7 @@ aftermath_of item (Undo hook link errno) = []
 aftermath_of item (Leave hook link) = []
 aftermath_of item (Rebind hook old new peer peer_hook) = []
 aftermath_of item (Tick seconds) = []
+aftermath_of item (Learn hook link addr) = []
 
 abbrev pub aftermath : Item → List Change
 aftermath item = aftermath_of item item.body
@@ -39,15 +40,15 @@ abbrev pub retiring : World → Item → List Change
 retiring w item = Retires ∷ flat_map aftermath (items_of w item.to)
 
 -- each peer that is another node is to take its end away; an end at the node itself goes with the node
-abbrev pub leave_unless : Bool → Hook → List Change
-leave_unless true hook = []
-leave_unless false hook = Accepts hook.peer.node (Leave hook.peer.hook hook.link) None ∷ []
+abbrev pub leave_step_unless : Bool → Hook → List Change
+leave_step_unless true hook = []
+leave_step_unless false hook = Accepts hook.peer.node (Leave hook.peer.hook hook.link) None ∷ []
 
-abbrev pub leave_to : NodeId → Hook → List Change
-leave_to at hook = leave_unless (hook.peer.node.0 == at.0) hook
+abbrev pub leave_step_to : NodeId → Hook → List Change
+leave_step_to at hook = leave_step_unless (hook.peer.node.0 == at.0) hook
 
-abbrev pub leaves : NodeId → List Hook → List Change
-leaves at hooks = flat_map (leave_to at) hooks
+abbrev pub leave_steps : NodeId → List Hook → List Change
+leave_steps at hooks = flat_map (leave_step_to at) hooks
 
 -- The farewell of ng_tee(4): two hooks' peers are joined to each other by a fresh link, where both are other nodes that
 -- are there.
@@ -66,19 +67,19 @@ hooks_but a b hooks = filter (λ h. not (is_named a h || is_named b h)) hooks
 abbrev pub rebind_to : World → Item → Hook → Hook → Change
 rebind_to w item from to = Accepts from.peer.node (Rebind from.peer.hook from.link (link_id w.next_link) to.peer.node to.peer.hook) item.tag
 
-abbrev pub bypass : World → Item → Row → List ℕ → List ℕ → Option Hook → Option Hook → List Change
-bypass w item row a b (Some x) (Some y) = Notes Links ∷ rebind_to w item x y ∷ rebind_to w item y x ∷ leaves item.to (hooks_but a b row.hooks)
-bypass w item row a b None y = leaves item.to row.hooks
-bypass w item row a b (Some x) None = leaves item.to row.hooks
+abbrev pub bypass : World → Item → NodeRecord → List ℕ → List ℕ → Option Hook → Option Hook → List Change
+bypass w item node a b (Some x) (Some y) = Notes Links ∷ rebind_to w item x y ∷ rebind_to w item y x ∷ leave_steps item.to (hooks_but a b node.hooks)
+bypass w item node a b None y = leave_steps item.to node.hooks
+bypass w item node a b (Some x) None = leave_steps item.to node.hooks
 
-abbrev pub farewell : World → Item → Row → Farewell → List Change
-farewell w item row Stay = Sets (without_hooks row) ∷ leaves item.to row.hooks
-farewell w item row Plain = leaves item.to row.hooks ++ retiring w item
-farewell w item row (Bypass a b) = bypass w item row a b (outward w item.to (hook_of row a)) (outward w item.to (hook_of row b)) ++ retiring w item
+abbrev pub farewell : World → Item → NodeRecord → Farewell → List Change
+farewell w item node Stay = Sets (without_hooks node) ∷ leave_steps item.to node.hooks
+farewell w item node Plain = leave_steps item.to node.hooks ++ retiring w item
+farewell w item node (Bypass a b) = bypass w item node a b (outward w item.to (hook_of node a)) (outward w item.to (hook_of node b)) ++ retiring w item
 
 -- shutdown: netgraph(4), NGM_SHUTDOWN
-abbrev pub shut_down : World → Item → Row → List Change
-shut_down w item row = farewell w item row (farewell_of (kind_at row))
+abbrev pub shut_down : World → Item → NodeRecord → List Change
+shut_down w item node = farewell w item node (farewell_of (kind_at node))
 
 -- A node whose last hook is taken away by rmhook or by its peer's going, and that doesn't stay without hooks, goes in the
 -- same step (netgraph(4): most types remove themselves with their last hook).
@@ -87,13 +88,13 @@ abbrev pub has_hooks : List Hook → Bool
 has_hooks [] = false
 has_hooks (hook ∷ hooks) = true
 
-abbrev pub stays : Row → Bool
-stays row = has_hooks row.hooks || is_lasting row.part
+abbrev pub stays : NodeRecord → Bool
+stays node = has_hooks node.hooks || is_lasting node.kept
 
-abbrev pub cut_to_if : World → Item → Row → Bool → List Change
-cut_to_if w item row true = Sets row ∷ []
-cut_to_if w item row false = retiring w item
+abbrev pub cut_to_if : World → Item → NodeRecord → Bool → List Change
+cut_to_if w item node true = Sets node ∷ []
+cut_to_if w item node false = retiring w item
 
 -- the node has this row once a hook is cut
-abbrev pub cut_to : World → Item → Row → List Change
-cut_to w item row = cut_to_if w item row (stays row)
+abbrev pub cut_to : World → Item → NodeRecord → List Change
+cut_to w item node = cut_to_if w item node (stays node)

@@ -12,13 +12,13 @@ use Rattle.ng_machine.specs.declared.hook.Hook.{Hook}
 use Rattle.ng_machine.specs.declared.item.Item.{Item}
 use Rattle.ng_machine.specs.declared.lost.Lost.{Lost}
 use Rattle.ng_machine.specs.declared.told.Told.{Told}
-use Rattle.ng_machine.specs.State.{State, Part, blank_part, kind_of_part}
+use Rattle.ng_machine.specs.State.{State, KindState, blank_kept, kind_of_kept, kept_with_hook, kept_without_hook, kept_without_hooks}
 use Rattle.ng_machine.specs.Stock.{without_kind, without_kinds}
 
 -- a node; its state is the names of its hooks and its part
-pub record Row : Type 0 where
+pub record NodeRecord : Type 0 where
   pub name : Option (List ℕ)
-  pub part : Part
+  pub kept : KindState
   pub hooks : List Hook
 
 -- a port: the packets that left by its wire, with their times; how many were fed; how many went to the host
@@ -28,7 +28,7 @@ pub record Port : Type 0 where
   pub up : ℕ
 
 pub record World : Type 0 where
-  pub nodes : List (Option Row)  -- by their numbers; None where a number has no node, or none any more
+  pub nodes : List (Option NodeRecord)  -- by their numbers; None where a number has no node, or none any more
   pub stock : List Kind  -- the kinds of the blank nodes that are left
   pub pending : List Item  -- in order of their numbers
   pub told : List Told
@@ -56,20 +56,20 @@ item_id n = record { 0 = n }
 
 -- Nodes
 
-abbrev pub state_of : Row → State
-state_of row = record { hooks = map (λ h. h.name) row.hooks; part = row.part }
+abbrev pub state_of : NodeRecord → State
+state_of node = record { hooks = map (λ h. h.name) node.hooks; kept = node.kept }
 
-abbrev pub kind_at : Row → Kind
-kind_at row = kind_of_part row.part
+abbrev pub kind_at : NodeRecord → Kind
+kind_at node = kind_of_kept node.kept
 
-abbrev pub row_in : List (Option Row) → NodeId → Option Row
-row_in nodes id = slice_index_or nodes id.0 None
+abbrev pub node_in : List (Option NodeRecord) → NodeId → Option NodeRecord
+node_in nodes id = slice_index_or nodes id.0 None
 
-abbrev pub row_at : World → NodeId → Option Row
-row_at w id = row_in w.nodes id
+abbrev pub node_at : World → NodeId → Option NodeRecord
+node_at w id = node_in w.nodes id
 
 abbrev pub is_there : World → NodeId → Bool
-is_there w id = is_some (row_at w id)
+is_there w id = is_some (node_at w id)
 
 -- the number of the next node: no number is used twice
 abbrev pub next_node : World → NodeId
@@ -80,45 +80,48 @@ next_node w = node_id (length w.nodes)
 abbrev pub is_named : List ℕ → Hook → Bool
 is_named name hook = bytes_eq hook.name name
 
-abbrev pub hook_of : Row → List ℕ → Option Hook
-hook_of row name = find (is_named name) row.hooks
+abbrev pub hook_of : NodeRecord → List ℕ → Option Hook
+hook_of node name = find (is_named name) node.hooks
 
-abbrev pub has_hook : Row → List ℕ → Bool
-has_hook row name = is_some (hook_of row name)
+abbrev pub has_hook : NodeRecord → List ℕ → Bool
+has_hook node name = is_some (hook_of node name)
 
-abbrev pub hook_at : Option Row → List ℕ → Option Hook
+abbrev pub hook_at : Option NodeRecord → List ℕ → Option Hook
 hook_at None name = None
-hook_at (Some row) name = hook_of row name
+hook_at (Some node) name = hook_of node name
 
 -- the hook of that name, where it has this link
-abbrev pub linked : Row → List ℕ → LinkId → Option Hook
-linked row name link = find (λ h. is_named name h && h.link.0 == link.0) row.hooks
+abbrev pub linked_hook : NodeRecord → List ℕ → LinkId → Option Hook
+linked_hook node name link = find (λ h. is_named name h && h.link.0 == link.0) node.hooks
 
 abbrev pub new_hook : List ℕ → LinkId → NodeId → List ℕ → Bool → Hook
 new_hook name link peer peer_hook joined = record { name = name; link = link; peer = record { node = peer; hook = peer_hook }; joined = joined }
 
--- a row with one hook more at the end, without one, and without any
-abbrev pub with_hook : Row → Hook → Row
-with_hook row hook = record row { hooks = row.hooks ++ hook ∷ [] }
+abbrev pub hook_names : NodeRecord → List (List ℕ)
+hook_names node = map (λ h. h.name) node.hooks
 
-abbrev pub without_hook : Row → List ℕ → Row
-without_hook row name = record row { hooks = filter (λ h. not (is_named name h)) row.hooks }
+-- a row with one hook more at the end, without one, and without any; the part follows
+abbrev pub with_hook : NodeRecord → Hook → NodeRecord
+with_hook node hook = record node { hooks = node.hooks ++ hook ∷ []; kept = kept_with_hook node.kept hook.name }
 
-abbrev pub without_hooks : Row → Row
-without_hooks row = record row { hooks = [] }
+abbrev pub without_hook : NodeRecord → List ℕ → NodeRecord
+without_hook node name = record node { hooks = filter (λ h. not (is_named name h)) node.hooks; kept = kept_without_hook node.kept name }
+
+abbrev pub without_hooks : NodeRecord → NodeRecord
+without_hooks node = record node { hooks = []; kept = kept_without_hooks node.kept (hook_names node) }
 
 -- a row whose hook of that name is changed
-abbrev pub hook_changed : List ℕ → (Hook → Hook) → Hook → Hook
-hook_changed name change hook = if is_named name hook then change hook else hook
+abbrev pub change_hook : List ℕ → (Hook → Hook) → Hook → Hook
+change_hook name change hook = if is_named name hook then change hook else hook
 
-abbrev pub with_hook_changed : Row → List ℕ → (Hook → Hook) → Row
-with_hook_changed row name change = record row { hooks = map (hook_changed name change) row.hooks }
+abbrev pub with_changed_hook : NodeRecord → List ℕ → (Hook → Hook) → NodeRecord
+with_changed_hook node name change = record node { hooks = map (change_hook name change) node.hooks }
 
-abbrev pub settled : Hook → Hook
-settled hook = record hook { joined = true }
+abbrev pub settle_hook : Hook → Hook
+settle_hook hook = record hook { joined = true }
 
-abbrev pub bound_to : LinkId → NodeId → List ℕ → Hook → Hook
-bound_to link peer peer_hook hook = record hook { link = link; peer = record { node = peer; hook = peer_hook } }
+abbrev pub bind_to : LinkId → NodeId → List ℕ → Hook → Hook
+bind_to link peer peer_hook hook = record hook { link = link; peer = record { node = peer; hook = peer_hook } }
 
 -- Names of nodes
 
@@ -126,17 +129,17 @@ abbrev pub same_name : List ℕ → Option (List ℕ) → Bool
 same_name name None = false
 same_name name (Some own) = bytes_eq own name
 
-abbrev pub has_name : List ℕ → Option Row → Bool
+abbrev pub has_name : List ℕ → Option NodeRecord → Bool
 has_name name None = false
-has_name name (Some row) = same_name name row.name
+has_name name (Some node) = same_name name node.name
 
-abbrev pub named_from : ℕ → List ℕ → List (Option Row) → Option NodeId
-named_from n name [] = None
-named_from n name (row ∷ rows) = if has_name name row then Some (node_id n) else named_from (n + 1) name rows
+abbrev pub find_named : ℕ → List ℕ → List (Option NodeRecord) → Option NodeId
+find_named n name [] = None
+find_named n name (node ∷ nodes) = if has_name name node then Some (node_id n) else find_named (n + 1) name nodes
 
 -- the node of that name
 abbrev pub node_named : World → List ℕ → Option NodeId
-node_named w name = named_from 0 name w.nodes
+node_named w name = find_named 0 name w.nodes
 
 -- The world before any event
 
@@ -151,8 +154,8 @@ port_node port = node_id (port + 2)
 abbrev pub port_of : NodeId → ℕ
 port_of id = id.0 - 2
 
-abbrev pub blank_row : Option (List ℕ) → Kind → Row
-blank_row name kind = record { name = name; part = blank_part kind; hooks = [] }
+abbrev pub blank_node : Option (List ℕ) → Kind → NodeRecord
+blank_node name kind = record { name = name; kept = blank_kept kind; hooks = [] }
 
 abbrev pub blank_port : Port
 blank_port = record { leaving = []; fed = 0; up = 0 }
@@ -161,7 +164,7 @@ blank_port = record { leaving = []; fed = 0; up = 0 }
 -- the blank nodes that were handed in
 abbrev pub start_of : List ℕ → List (List ℕ) → List Kind → World
 start_of own ports stock = record {
-  nodes = None ∷ Some (blank_row (Some own) Socket) ∷ map (λ name. Some (blank_row (Some name) Ether)) ports;
+  nodes = None ∷ Some (blank_node (Some own) Socket) ∷ map (λ name. Some (blank_node (Some name) Ether)) ports;
   stock = without_kinds (without_kind stock Socket) Ether (length ports);
   pending = [];
   told = [];

@@ -1,9 +1,9 @@
 // What an item carries, and the ways into and out of a node.
 ghost use Rattle.std.specs.Prelude.{◌≡◌};
-ghost use Rattle.ng_machine.specs.Body.{is_frame, is_reader_number, is_writer, lane_of, writes_by_packets};
+ghost use Rattle.ng_machine.specs.Body.{is_frame, is_writer, lane_of, writes_by_packets};
 
 use ng_base::{Errno, Kind, LinkId, Name, NodeId, Packet};
-use ng_message::Msg;
+use ng_message::{Msg, is_read_only};
 
 /// Where a packet comes in.
 #[derive(Clone, Copy, Debug, PartialEq, Eq)]
@@ -84,18 +84,12 @@ pub enum Body {
     },
     /// So many seconds went by.
     Tick(u32),
-}
-
-/// The bit of a message's number that says that the message changes nothing (`NGM_READONLY` of
-/// ng_message.h).
-const READ_ONLY: u32 = 0x1000_0000;
-
-/// Whether a message of that number changes nothing, so that it may be worked on beside others:
-/// bit 28 of the number (`NGM_READONLY` of ng_message.h, described in netgraph(4)).
-pub fn is_read_only(number: u32) -> bool
-    ensures { result ≡ is_reader_number number }
-{
-    number / READ_ONLY % 2 == 1
+    /// A bridge is to learn that the host of this address is behind the link of this hook.
+    Learn {
+        hook: Name,
+        link: LinkId,
+        addr: [u8; 6],
+    },
 }
 
 /// Whether a packet changes the state of a node of the kind.
@@ -103,17 +97,20 @@ fn writes_by_packets(kind: Kind) -> bool
     ensures { result ≡ writes_by_packets kind }
 {
     match kind {
-        Kind::One2many | Kind::Bridge => true,
+        Kind::One2many => true,
         Kind::Hub
         | Kind::Hole
         | Kind::Echo
         | Kind::Tee
         | Kind::Split
+        | Kind::Bridge
         | Kind::Vlan
         | Kind::Patch
         | Kind::Bpf
         | Kind::Ether
-        | Kind::Socket => false,
+        | Kind::Socket
+        | Kind::Etf
+        | Kind::Macset => false,
     }
 }
 
@@ -130,12 +127,13 @@ impl Body {
             | Body::Undo { .. }
             | Body::Leave { .. }
             | Body::Rebind { .. }
-            | Body::Tick(_) => false,
+            | Body::Tick(_)
+            | Body::Learn { .. } => false,
         }
     }
 
     /// Whether a node of the kind has to be alone for it. A packet does not want a node alone, unless the kind
-    /// learns or counts its way by packets; a message does, unless its number says that it reads; all
+    /// deals packets out by turns; a message does, unless its number says that it reads; all
     /// else does. netgraph(4): readers and writers of a node.
     pub fn is_writer(&self, kind: Kind) -> bool
         ensures { result ≡ is_writer kind self.now }
@@ -148,7 +146,8 @@ impl Body {
             | Body::Undo { .. }
             | Body::Leave { .. }
             | Body::Rebind { .. }
-            | Body::Tick(_) => true,
+            | Body::Tick(_)
+            | Body::Learn { .. } => true,
         }
     }
 
@@ -165,7 +164,8 @@ impl Body {
             | Body::Undo { .. }
             | Body::Leave { .. }
             | Body::Rebind { .. }
-            | Body::Tick(_) => None,
+            | Body::Tick(_)
+            | Body::Learn { .. } => None,
         }
     }
 }

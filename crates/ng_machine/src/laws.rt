@@ -2,24 +2,24 @@
 //! contract is the law.
 
 ghost use Rattle.ng_machine.specs.Laws.{RunIs, Once, InOrder, WriterAlone, TakenOnce, WholeTakesNothing, Retired, Serial, PlainIsThere, PlainIsOne, PlainIsOrderly};
-ghost use Rattle.ng_machine.specs.Address.{ReadsAddress};
+ghost use Rattle.ng_machine.specs.RunLaws.{StaysOut, SpentTakesNothing, ByItsTaker};
+ghost use Rattle.ng_machine.specs.KnownRun.{RunsAreKnown};
+ghost use Rattle.ng_machine.specs.LowRun.{RunsAreLow};
 ghost use Rattle.ng_machine.specs.Refusal.{FeedsUnlessRefused};
 ghost use Rattle.ng_machine.specs.Tests.{OrderlyByTest};
-ghost use Rattle.ng_machine.specs.Facts.{ReadersSpare, KindsStay};
+ghost use Rattle.ng_machine.specs.KindObligations.{ReadersPreserve, KindsStay, AbsorbingPreserves, RefusedLeaves};
+ghost use Rattle.ng_machine.specs.Sound.{CutUndoes};
+ghost use Rattle.ng_machine.specs.SoundStates.{StatesStaySound};
+ghost use Rattle.ng_machine.specs.Bounds.{LinksAreFew, PacketsAreBounded};
 
 /// A reader makes and retires no node, and leaves its node's name, hooks and plan as they are.
-pub fn readers_spare()
-    ensures { ReadersSpare }
+pub fn readers_preserve()
+    ensures { ReadersPreserve }
 {}
 
 /// No item changes the kind of its node.
 pub fn kinds_stay()
     ensures { KindsStay }
-{}
-
-/// The address that is computed from bytes is the one that they are, as `ng_path::read_path` reads it.
-pub fn reads_address()
-    ensures { ReadsAddress }
 {}
 
 /// An input may be fed exactly where nothing in the table of refusals holds.
@@ -86,4 +86,63 @@ pub fn plain_is_one()
 /// The plain journal is orderly.
 pub fn plain_is_orderly()
     ensures { PlainIsOrderly }
+{}
+
+/// A hook that is cut right after it was made leaves the state as it was before.
+pub fn cut_undoes()
+    ensures { CutUndoes }
+{}
+
+/// What is counted changes nothing that a plan holds.
+pub fn absorbing_preserves()
+    ensures { AbsorbingPreserves }
+{}
+
+/// A message that is refused changes nothing.
+pub fn refused_leaves()
+    ensures { RefusedLeaves }
+{}
+
+/// What comes of one packet is no longer than the longest packet, and is at most one packet for each hook and link, or
+/// one for each of 64 links.
+pub fn packets_are_bounded()
+    ensures { PacketsAreBounded }
+{}
+
+/// What a part keeps by hooks is always kept of hooks that are there.
+pub fn states_stay_sound()
+    ensures { StatesStaySound }
+{}
+
+/// A hook brings at most one link, and nothing else brings any: so a bridge sends a packet out of no more links than
+/// hooks were made.
+pub fn links_are_few()
+    ensures { LinksAreFew }
+{}
+
+/// From its Take to its Back or Apply an item is pending, and taken by that seat.
+pub fn stays_out()
+    ensures { StaysOut }
+{}
+
+/// Where the applied items are as many as may be, nothing is taken.
+pub fn spent_takes_nothing()
+    ensures { SpentTakesNothing }
+{}
+
+/// An item comes back or is applied by the seat that took it last.
+pub fn by_its_taker()
+    ensures { ByItsTaker }
+{}
+
+/// In each world of a run over inputs that fit: what a command waits for is the last command's, peers have numbers that were
+/// given, the wire leads to ethers, and no packet that waits, was told or left is longer than the longest.
+pub fn runs_are_known()
+    ensures { RunsAreKnown }
+{}
+
+/// In each world of a run that applies at most ten million items, over inputs that fit, no number comes near the end of its
+/// type: of items, nodes, links, losses, and packets fed, left and handed to hosts.
+pub fn runs_are_low()
+    ensures { RunsAreLow }
 {}

@@ -1,7 +1,7 @@
-// Tables of modes and lanes, and what is read-only.
-use crate::{Body, Door, Exit, Lane, is_read_only};
+// Tables of modes and lanes.
+use crate::{Body, Door, Exit, Lane};
 use ng_base::{Bytes, Errno, Kind, LinkId, Name, NodeId, Packet};
-use ng_message::{Header, Msg};
+use ng_message::{GENERIC_COOKIE, Header, Msg};
 use std::alloc::Global;
 use std::test::Fail;
 
@@ -17,35 +17,15 @@ fn message(alloc: Global, from: u32, number: u32) -> Msg {
             cmd: number,
             flags: 0,
             token: 1,
-            typecookie: 1137070366,
+            typecookie: GENERIC_COOKIE,
             cmdstr: [0; 32],
         },
         args: Bytes(Vec::new(alloc)),
     }
 }
 
-// The numbers of generic messages are those of ng_message.h, where NGM_READONLY is 0x10000000 and
-// NGM_HASREPLY 0x20000000: shutdown, mkpeer, connect, name, rmhook, and then the questions.
 #[test]
-fn generic_numbers_that_read(rt: HostRuntime) {
-    for number in [1, 2, 3, 4, 5, 14, 0x2000_0001, 0x2fff_ffff, 0xe000_0000] {
-        assert!(rt; !is_read_only(number));
-    }
-    for number in [
-        0x3000_0006,
-        0x3000_0007,
-        0x3000_0008,
-        0x3000_0009,
-        0x3000_000a,
-        0x1000_0000,
-        0xffff_ffff,
-    ] {
-        assert!(rt; is_read_only(number));
-    }
-}
-
-#[test]
-fn packets_write_where_a_kind_learns_by_them(rt: HostRuntime) -> Result<(), Fail> {
+fn packets_write_where_a_kind_deals_them_out_by_turns(rt: HostRuntime) -> Result<(), Fail> {
     let frame = Body::Frame {
         door: Door::Wire,
         link: None,
@@ -59,12 +39,14 @@ fn packets_write_where_a_kind_learns_by_them(rt: HostRuntime) -> Result<(), Fail
         (Kind::Tee, false),
         (Kind::Split, false),
         (Kind::One2many, true),
-        (Kind::Bridge, true),
+        (Kind::Bridge, false),
         (Kind::Vlan, false),
         (Kind::Patch, false),
         (Kind::Bpf, false),
         (Kind::Ether, false),
         (Kind::Socket, false),
+        (Kind::Etf, false),
+        (Kind::Macset, false),
     ] {
         assert_eq!(rt; frame.is_writer(kind), writes);
     }
@@ -109,6 +91,11 @@ fn steps_of_a_join_want_the_node_alone(rt: HostRuntime) -> Result<(), Fail> {
             peer_hook: hook,
         },
         Body::Tick(1),
+        Body::Learn {
+            hook,
+            link,
+            addr: [2, 0, 0, 0, 0, 10],
+        },
     ] {
         assert!(rt; body.is_writer(Kind::Hub));
         assert!(rt; !body.is_frame());

@@ -14,10 +14,12 @@ use Rattle.ng_message.proofs.Headers.{header_at, header_at-header_bytes, drop-he
 pub fault-bad_version : (header : Header) (had : ℕ) → header.version ≢ 8 → header_fault header had ≡ Some (BadVersion header.version)
 fault-bad_version header had other = grind (arith, nat_tests)
 
-pub fault-bad_length : (header : Header) (had : ℕ) → header.version ≡ 8 → header.arglen ≢ had → header_fault header had ≡ Some (BadLength header.arglen had)
+pub fault-bad_length : (header : Header) (had : ℕ) → header.version ≡ 8 → header.arglen ≢ had
+    → header_fault header had ≡ Some (BadLength header.arglen had)
 fault-bad_length header had version other = grind (arith, nat_tests)
 
-pub fault-no_nul : (header : Header) (had : ℕ) → header.version ≡ 8 → header.arglen ≡ had → has_nul header.cmdstr ≡ false → header_fault header had ≡ Some NoNul
+pub fault-no_nul : (header : Header) (had : ℕ) → header.version ≡ 8 → header.arglen ≡ had
+    → has_nul header.cmdstr ≡ false → header_fault header had ≡ Some NoNul
 fault-no_nul header had version arglen nul = grind (arith, nat_tests)
 
 pub fault-none : (header : Header) (had : ℕ) → header.version ≡ 8 → header.arglen ≡ had → has_nul header.cmdstr ≡ true → header_fault header had ≡ None
@@ -30,7 +32,7 @@ header_and_rest spelled bytes front rest is_front is_rest same = rw (same, is_fr
 long_enough : (header : Header) (rest : List ℕ) → IsHeader header → 56 ≤ length (header_bytes header ++ rest)
 long_enough header rest fits = let own = fits.name_len in omega (arith, length-append header.cmdstr rest)
 
--- no answer but the message, or want of memory, where there is no fault
+-- no answer but the message, or that memory ran out, where there is no fault
 answer_without_fault : (from : NodeId) (msg : Msg) (result : Result Msg MsgFault)
     → msg.from ≡ from → header_fault msg.header (length msg.args) ≡ None → Answers from msg.header msg.args result → IsUnlessNoMemory msg result
 answer_without_fault from msg (Ok found) same none answers = answers.1 ∙ ap (λ (f : NodeId). record { from = f; header = msg.header; args = msg.args }) (sym same)

@@ -81,7 +81,8 @@ join_four at bytes behind long fits same =
 join_ones : (bytes behind : List ℕ) → 2 ≤ length bytes → behind ≡ drop 2 bytes → slice_index bytes 0 ∷ slice_index bytes 1 ∷ behind ≡ bytes
 join_ones bytes behind long same = grind (arith, common_steps)
 
-pub header_bytes-header_at : (bytes : List ℕ) → 56 ≤ length bytes → ((i : ℕ) → slice_index bytes i < 256) → header_bytes (header_at bytes) ++ drop 56 bytes ≡ bytes
+pub header_bytes-header_at : (bytes : List ℕ) → 56 ≤ length bytes → ((i : ℕ) → slice_index bytes i < 256)
+    → header_bytes (header_at bytes) ++ drop 56 bytes ≡ bytes
 header_bytes-header_at bytes long fits =
     let cmdstr = ap (λ (l : List ℕ). take 32 (drop 24 bytes) ++ l) (sym (drop-drop 32 24 bytes)) ∙ take-append-drop 32 (drop 24 bytes) in
     let typecookie = join_four 20 bytes _ (omega arith) fits cmdstr in

@@ -1,4 +1,5 @@
 pub mod Fields
 pub mod Layout
+pub mod Numbers
 pub mod Message
 pub mod Laws

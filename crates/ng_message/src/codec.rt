@@ -14,7 +14,7 @@ use std::alloc::Global;
 /// nothing else takes memory.
 ///
 /// # Errors
-/// `NoMemory` for want of memory alone; `out` is then as before.
+/// `NoMemory` where memory ran out, and for nothing else; `out` is then as before.
 pub fn encode(_alloc: Global, msg: &Msg, out: &mut Vec<u8>) -> Result<(), NoMemory>
     requires { IsInForm msg.now }
     ensures ok { OnOk result (out.new.items ≡ out.old.items ++ message_bytes msg.now) }
@@ -58,7 +58,7 @@ fn append_header(header: &Header, out: &mut Vec<u8>) -> Result<(), NoMemory>
 /// The first of these that holds: `Short` with the number of bytes where they are fewer than 56,
 /// `BadVersion` with the version where it isn't 8, `BadLength` with the number of bytes of arguments
 /// that the header says and the number that there is where they differ, `NoNul` where the command's
-/// name has no NUL; or `NoMemory` for want of memory alone.
+/// name has no NUL; or `NoMemory` where memory ran out, and for nothing else.
 pub fn decode(alloc: Global, bytes: &[u8], from: NodeId) -> Result<Msg, MsgFault>
     // The answer is that of the one header that begins the bytes, and of the rest.
     ensures answer { IsAnswer from bytes.now result }

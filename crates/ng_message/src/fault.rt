@@ -1,11 +1,11 @@
-// Why bytes are no message.
+// Why bytes are an invalid message.
 ghost use Rattle.std.specs.Prelude.{◌≡◌};
 ghost use Rattle.ng_message.specs.declared.fault.MsgFault.TheVariants.{NoMemory as out_of_memory};
 
 use std::alloc::AllocError;
 use thiserror::Error;
 
-/// Why bytes are no message: the first of these, in this order, that holds.
+/// Why bytes are an invalid message: the first of these, in this order, that holds.
 #[derive(Clone, Copy, Debug, PartialEq, Eq, Error)]
 pub enum MsgFault {
     /// There are fewer bytes than a header has: so many.
@@ -20,7 +20,7 @@ pub enum MsgFault {
     /// The command's name has no NUL in its 32 bytes.
     #[error("the command's name has no end")]
     NoNul,
-    /// Memory was wanted and there was none. The bytes are a message.
+    /// Memory ran out. The bytes are a message.
     #[error("out of memory")]
     NoMemory,
 }

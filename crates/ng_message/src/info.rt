@@ -34,7 +34,7 @@ pub struct LinkInfo {
 /// its hooks in 4 each, the lowest byte first. Where there is no name or no type the field is empty.
 ///
 /// # Errors
-/// `NoMemory` for want of memory alone; `out` is then as before.
+/// `NoMemory` where memory ran out, and for nothing else; `out` is then as before.
 pub fn put_node_info(out: &mut Vec<u8>, info: &NodeInfo) -> Result<(), NoMemory>
     ensures ok { OnOk result (out.new.items ≡ out.old.items ++ node_info_bytes info.now) }
     ensures err { OnErr result (out.new.items ≡ out.old.items) }
@@ -48,7 +48,7 @@ pub fn put_node_info(out: &mut Vec<u8>, info: &NodeInfo) -> Result<(), NoMemory>
 /// told of the peer.
 ///
 /// # Errors
-/// `NoMemory` for want of memory alone; `out` is then as before.
+/// `NoMemory` where memory ran out, and for nothing else; `out` is then as before.
 pub fn put_link_info(out: &mut Vec<u8>, info: &LinkInfo) -> Result<(), NoMemory>
     ensures ok { OnOk result (out.new.items ≡ out.old.items ++ link_info_bytes info.now) }
     ensures err { OnErr result (out.new.items ≡ out.old.items) }

@@ -1,9 +1,6 @@
 // A control message, as a value.
 use ng_base::{Bytes, NodeId};
 
-/// The version of a header that this program knows (NG_VERSION).
-pub const VERSION: u8 = 8;
-
 /// The bytes of a header.
 pub const HEADER_LEN: usize = 56;
 

@@ -40,7 +40,7 @@ pub fn u64_at(args: &[u8], at: usize) -> u64
 ///
 /// # Errors
 /// What `Name::read` answers of it: `TooLong` with 32 where there is no NUL, `BadByte` with the place
-/// of the first byte that no name has. Never `Empty`.
+/// of the first byte that no name may have. Never `Empty`.
 pub fn name_at(args: &[u8], at: usize) -> Result<Option<Name>, NameFault>
     requires { at + NAME_LEN ≤ length args.now }
     ensures { let text = field_text (slice_range args.now at (at + 32)) in

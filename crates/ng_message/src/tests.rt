@@ -1,15 +1,12 @@
-// Messages that were put together by hand from the layout, and tables of fields.
+// Messages that were put together by hand from the layout.
 use crate::{
-    Header, LinkInfo, Msg, MsgFault, NodeInfo, VERSION, decode, encode, name_at, put_link_info,
-    put_name, put_node_info, put_u16, put_u32, put_u64, u16_at, u32_at, u64_at,
+    GENERIC_COOKIE, Header, LinkInfo, Msg, MsgFault, NodeInfo, VERSION, decode, encode, generic,
+    put_link_info, put_name, put_node_info, put_u16, put_u32, put_u64,
 };
-use ng_base::{Bytes, Kind, Name, NameFault, NoMemory, NodeId};
+use ng_base::{Bytes, Kind, Name, NodeId};
 use std::alloc::Global;
 use std::process::Abort;
 use std::test::Fail;
-
-/// The cookie of the generic commands (NGM_GENERIC_COOKIE).
-const GENERIC: u32 = 1_137_070_366;
 
 /// The start of the bytes of `mkpeer . echo a b` with token 1, up to the token.
 const UP_TO_TOKEN: &[u8; 20] =
@@ -32,10 +29,10 @@ fn mkpeer_header() -> Header {
         spare: 0,
         spare2: 0,
         arglen: 96,
-        cmd: 2,
+        cmd: generic::MKPEER,
         flags: 0,
         token: 1,
-        typecookie: GENERIC,
+        typecookie: GENERIC_COOKIE,
         cmdstr: command(b"mkpeer"),
     }
 }
@@ -97,95 +94,6 @@ fn mkpeer_is_read_back(rt: HostRuntime) -> Result<(), Fail> {
     Ok(())
 }
 
-/// What `decode` answers of bytes that are no message.
-fn fault_of(alloc: Global, bytes: &[u8]) -> Option<MsgFault> {
-    decode(alloc, bytes, NodeId(1)).err()
-}
-
-/// What `decode` answers of the first bytes, so many of them.
-fn fault_of_front(alloc: Global, bytes: &[u8], count: usize) -> Option<MsgFault> {
-    fault_of(alloc, bytes.get(..count)?)
-}
-
-#[test]
-fn faults_are_told(rt: HostRuntime) -> Result<(), Fail> {
-    let mut bytes = mkpeer_bytes(&rt, rt.alloc())?;
-    assert_eq!(rt; bytes.len(), 152);
-    let whole = bytes.as_slice();
-    assert_eq!(rt;
-        fault_of_front(rt.alloc(), whole, 0),
-        Some(MsgFault::Short(0))
-    );
-    assert_eq!(rt;
-        fault_of_front(rt.alloc(), whole, 55),
-        Some(MsgFault::Short(55))
-    );
-    assert_eq!(rt;
-        fault_of_front(rt.alloc(), whole, 56),
-        Some(MsgFault::BadLength(96, 0))
-    );
-    assert_eq!(rt;
-        fault_of_front(rt.alloc(), whole, 151),
-        Some(MsgFault::BadLength(96, 95))
-    );
-    assert_eq!(rt; fault_of_front(rt.alloc(), whole, 152), None);
-    bytes.push(0)?;
-    assert_eq!(rt;
-        fault_of(rt.alloc(), bytes.as_slice()),
-        Some(MsgFault::BadLength(96, 97))
-    );
-    Ok(())
-}
-
-#[test]
-fn faults_are_told_in_order(rt: HostRuntime) -> Result<(), Fail> {
-    let mut bytes = mkpeer_bytes(&rt, rt.alloc())?;
-    assert_eq!(rt; bytes.len(), 152);
-    bytes[24..56].copy_from_slice(&[b'x'; 32]);
-    assert_eq!(rt;
-        fault_of(rt.alloc(), bytes.as_slice()),
-        Some(MsgFault::NoNul)
-    );
-    assert_eq!(rt; bytes.pop(), Some(0));
-    assert_eq!(rt;
-        fault_of(rt.alloc(), bytes.as_slice()),
-        Some(MsgFault::BadLength(96, 95))
-    );
-    assert_eq!(rt; bytes.len(), 151);
-    bytes[0] = 7;
-    assert_eq!(rt;
-        fault_of(rt.alloc(), bytes.as_slice()),
-        Some(MsgFault::BadVersion(7))
-    );
-    bytes.truncate(55);
-    assert_eq!(rt;
-        fault_of(rt.alloc(), bytes.as_slice()),
-        Some(MsgFault::Short(55))
-    );
-    Ok(())
-}
-
-#[test]
-fn a_header_alone_is_a_message(rt: HostRuntime) -> Result<(), Fail> {
-    let mut bytes = [0u8; 56];
-    bytes[0] = 8;
-    bytes[1] = 9;
-    bytes[2] = 0x34;
-    bytes[3] = 0x12;
-    bytes[11] = 0x80;
-    bytes[12] = 1;
-    bytes[55] = 0xff;
-    let msg = decode(rt.alloc(), &bytes, NodeId(3))?;
-    assert_eq!(rt; msg.header.spare, 9);
-    assert_eq!(rt; msg.header.spare2, 0x1234);
-    assert_eq!(rt; msg.header.arglen, 0);
-    assert_eq!(rt; msg.header.cmd, 0x8000_0000);
-    assert_eq!(rt; msg.header.flags, 1);
-    assert_eq!(rt; msg.header.cmdstr[31], 0xff);
-    assert_eq!(rt; msg.args.0.len(), 0);
-    Ok(())
-}
-
 #[test]
 fn faults_print(rt: HostRuntime) -> Result<(), Fail> {
     for (fault, text) in [
@@ -205,17 +113,6 @@ fn faults_print(rt: HostRuntime) -> Result<(), Fail> {
 }
 
 #[test]
-fn numbers_are_read_lowest_byte_first(rt: HostRuntime) {
-    let bytes = [0x01, 0x02, 0x03, 0x04, 0x05, 0x06, 0x07, 0x08, 0xff];
-    assert_eq!(rt; u16_at(&bytes, 0), 0x0201);
-    assert_eq!(rt; u16_at(&bytes, 7), 0xff08);
-    assert_eq!(rt; u32_at(&bytes, 0), 0x0403_0201);
-    assert_eq!(rt; u32_at(&bytes, 5), 0xff08_0706);
-    assert_eq!(rt; u64_at(&bytes, 0), 0x0807_0605_0403_0201);
-    assert_eq!(rt; u64_at(&bytes, 1), 0xff08_0706_0504_0302);
-}
-
-#[test]
 fn numbers_are_put_lowest_byte_first(rt: HostRuntime) -> Result<(), Fail> {
     let mut out = Vec::new(rt.alloc());
     out.push(9)?;
@@ -224,50 +121,6 @@ fn numbers_are_put_lowest_byte_first(rt: HostRuntime) -> Result<(), Fail> {
     put_u64(&mut out, 0x0e0d_0c0b_0a09_0807)?;
     let want = [9, 1, 2, 3, 4, 5, 6, 7, 8, 9, 10, 11, 12, 13, 14];
     assert_eq!(rt; out.as_slice(), want.as_slice());
-    Ok(())
-}
-
-/// A field of 32 bytes that begins with the text, with zeros behind it, and two bytes before it.
-fn field_of(text: &[u8]) -> [u8; 34] {
-    let mut field = [0; 34];
-    for (cell, byte) in field[2..].iter_mut().zip(text) {
-        *cell = *byte;
-    }
-    field
-}
-
-#[test]
-fn names_are_read_from_fields(rt: HostRuntime) -> Result<(), Fail> {
-    let longest = b"abcdefghijklmnopqrstuvwxyz01234";
-    let too_long = b"abcdefghijklmnopqrstuvwxyz012345";
-    assert_eq!(rt; name_at(&field_of(b"ab"), 2), Ok(Some(Name::read(b"ab")?)));
-    assert_eq!(rt;
-        name_at(&field_of(b"ab\0.."), 2),
-        Ok(Some(Name::read(b"ab")?))
-    );
-    assert_eq!(rt;
-        name_at(&field_of(longest), 2),
-        Ok(Some(Name::read(longest)?))
-    );
-    assert_eq!(rt; name_at(&field_of(b""), 2), Ok(None));
-    assert_eq!(rt; name_at(&field_of(b"\0ab"), 2), Ok(None));
-    assert_eq!(rt;
-        name_at(&field_of(too_long), 2),
-        Err(NameFault::TooLong(32))
-    );
-    assert_eq!(rt; name_at(&field_of(b"a.b"), 2), Err(NameFault::BadByte(1)));
-    Ok(())
-}
-
-#[test]
-fn names_are_put_into_fields(rt: HostRuntime) -> Result<(), Fail> {
-    let mut out = Vec::new(rt.alloc());
-    put_name(&mut out, Some(&Name::read(b"ab")?))?;
-    put_name(&mut out, None)?;
-    assert_eq!(rt; out.len(), 64);
-    assert_eq!(rt; &out[..2], b"ab".as_slice());
-    assert_eq!(rt; &out[2..32], &NO_NAME[..30]);
-    assert_eq!(rt; &out[32..], NO_NAME.as_slice());
     Ok(())
 }
 

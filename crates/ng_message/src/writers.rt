@@ -13,7 +13,7 @@ pub const NAME_LEN: usize = 32;
 /// Appends a number of 16 bits, the lowest byte first.
 ///
 /// # Errors
-/// `NoMemory` for want of memory alone; `out` is then as before.
+/// `NoMemory` where memory ran out, and for nothing else; `out` is then as before.
 pub fn put_u16(out: &mut Vec<u8>, value: u16) -> Result<(), NoMemory>
     ensures ok { OnOk result (out.new.items ≡ out.old.items ++ little_bytes 2 value) }
     ensures err { OnErr result (out.new.items ≡ out.old.items) }
@@ -27,7 +27,7 @@ pub fn put_u16(out: &mut Vec<u8>, value: u16) -> Result<(), NoMemory>
 /// Appends a number of 32 bits, the lowest byte first.
 ///
 /// # Errors
-/// `NoMemory` for want of memory alone; `out` is then as before.
+/// `NoMemory` where memory ran out, and for nothing else; `out` is then as before.
 pub fn put_u32(out: &mut Vec<u8>, value: u32) -> Result<(), NoMemory>
     ensures ok { OnOk result (out.new.items ≡ out.old.items ++ little_bytes 4 value) }
     ensures err { OnErr result (out.new.items ≡ out.old.items) }
@@ -41,7 +41,7 @@ pub fn put_u32(out: &mut Vec<u8>, value: u32) -> Result<(), NoMemory>
 /// Appends a number of 64 bits, the lowest byte first.
 ///
 /// # Errors
-/// `NoMemory` for want of memory alone; `out` is then as before.
+/// `NoMemory` where memory ran out, and for nothing else; `out` is then as before.
 pub fn put_u64(out: &mut Vec<u8>, value: u64) -> Result<(), NoMemory>
     ensures ok { OnOk result (out.new.items ≡ out.old.items ++ little_bytes 8 value) }
     ensures err { OnErr result (out.new.items ≡ out.old.items) }
@@ -55,7 +55,7 @@ pub fn put_u64(out: &mut Vec<u8>, value: u64) -> Result<(), NoMemory>
 /// Appends a name in 32 bytes: its bytes, and NULs behind them. Without a name that is 32 NULs.
 ///
 /// # Errors
-/// `NoMemory` for want of memory alone; `out` is then as before.
+/// `NoMemory` where memory ran out, and for nothing else; `out` is then as before.
 pub fn put_name(out: &mut Vec<u8>, name: Option<&Name>) -> Result<(), NoMemory>
     ensures ok { OnOk result (out.new.items ≡ out.old.items ++ name_field (text_or_empty (option_copied name.entry))) }
     ensures err { OnErr result (out.new.items ≡ out.old.items) }

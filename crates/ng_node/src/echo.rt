@@ -3,18 +3,21 @@ ghost use Rattle.std.specs.Prelude.{◌≡◌, IfOk};
 ghost use Rattle.ng_machine.specs.State.{blank_of};
 ghost use Rattle.ng_node.specs.State.{echo_state};
 
-use crate::Node;
-use ng_base::{Errno, Kind, Name, Names, NoMemory, Sequence};
-use ng_machine::{Body, Door, Outcome};
+use crate::outcomes::{fails, nothing};
+use crate::{HookList, Node};
+use ng_base::{Errno, Kind, Name, NoMemory, Sequence};
+use ng_machine::{Body, Counts, Door, Farewell, Outcome, Plan};
+use ng_message::Msg;
 use std::alloc::Global;
 use std::marker::Model;
+use std::sync::Arc;
 
 /// A node that sends each packet back out of the hook that it came by. ng_echo(4).
 ///
 /// A contract sees it as the names of its hooks.
 #[derive(Drop)]
 pub struct EchoNode {
-    hooks: Names,
+    hooks: HookList,
 }
 
 impl Model for EchoNode {
@@ -22,7 +25,7 @@ impl Model for EchoNode {
 
     ghost Value = { List (List ℕ) };
 
-    ghost view = { λ n. n.hooks };
+    ghost view = { λ n. n.hooks.names };
 }
 
 impl Node for EchoNode {
@@ -37,41 +40,61 @@ impl Node for EchoNode {
     }
 
     fn newhook(&mut self, _alloc: Global, hook: &Name) -> Result<(), NoMemory> {
-        self.hooks.push(*hook)
+        self.hooks.reserve()?;
+        self.hooks.add(*hook);
+        Ok(())
     }
 
     fn cut(&mut self, hook: &Name) {
-        self.hooks.remove(hook);
+        self.hooks.cut(hook);
+    }
+
+    fn lasting(&self) -> bool {
+        false
+    }
+
+    fn plan(&self, alloc: Global) -> Result<Option<Arc<Plan>>, NoMemory> {
+        Ok(Some(Arc::new(alloc, Plan::Echo)?))
+    }
+
+    fn absorb(&mut self, _counts: &Counts) {}
+
+    fn answer(&self, alloc: Global, _msg: &Msg) -> Result<Outcome, NoMemory> {
+        Ok(fails(alloc, Errno::INVAL))
     }
 
     fn write(&mut self, alloc: Global, body: &Body) -> Result<Outcome, NoMemory> {
-        let mut sends = Sequence::new(alloc);
-        if let Body::Frame {
-            door: Door::Hook(hook),
-            packet,
-            ..
-        } = body
-        {
-            sends.push((*hook, packet.again()?))?;
+        match body {
+            Body::Frame {
+                door: Door::Hook(hook),
+                packet,
+                ..
+            } => {
+                let mut sends = Sequence::new(alloc);
+                sends.push((*hook, packet.again()?))?;
+                Ok(Outcome {
+                    sends,
+                    ..nothing(alloc)
+                })
+            }
+            Body::Msg(_) => Ok(fails(alloc, Errno::INVAL)),
+            _ => Ok(nothing(alloc)),
         }
-        Ok(Outcome {
-            sends,
-            leaves: Sequence::new(alloc),
-            answer: None,
-            counts: Sequence::new(alloc),
-            errno: Errno::NONE,
-        })
+    }
+
+    fn farewell(&self) -> Farewell {
+        Farewell::Plain
     }
 }
 
 /// A node of the type without hooks.
 ///
 /// # Errors
-/// `NoMemory` for want of memory alone.
+/// `NoMemory` where memory ran out, and for nothing else.
 pub fn blank_echo(alloc: Global) -> Result<EchoNode, NoMemory>
     ensures { IfOk result (λ node. echo_state node ≡ blank_of Kind.Echo) }
 {
     Ok(EchoNode {
-        hooks: Names::new(alloc),
+        hooks: HookList::new(alloc),
     })
 }

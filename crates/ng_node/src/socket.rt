@@ -3,18 +3,21 @@ ghost use Rattle.std.specs.Prelude.{◌≡◌, IfOk};
 ghost use Rattle.ng_machine.specs.State.{blank_of};
 ghost use Rattle.ng_node.specs.State.{socket_state};
 
-use crate::Node;
-use ng_base::{Errno, Kind, Name, Names, NoMemory, Sequence};
-use ng_machine::{Body, Door, Exit, Outcome};
+use crate::outcomes::{fails, nothing};
+use crate::{HookList, Node};
+use ng_base::{Errno, Kind, Name, NoMemory, Sequence};
+use ng_machine::{Body, Counts, Door, Exit, Farewell, Outcome, Plan};
+use ng_message::Msg;
 use std::alloc::Global;
 use std::marker::Model;
+use std::sync::Arc;
 
 /// The node that the commands come from: each packet that reaches it is told. ng_socket(4).
 ///
 /// A contract sees it as the names of its hooks.
 #[derive(Drop)]
 pub struct SocketNode {
-    hooks: Names,
+    hooks: HookList,
 }
 
 impl Model for SocketNode {
@@ -22,7 +25,7 @@ impl Model for SocketNode {
 
     ghost Value = { List (List ℕ) };
 
-    ghost view = { λ n. n.hooks };
+    ghost view = { λ n. n.hooks.names };
 }
 
 impl Node for SocketNode {
@@ -37,41 +40,61 @@ impl Node for SocketNode {
     }
 
     fn newhook(&mut self, _alloc: Global, hook: &Name) -> Result<(), NoMemory> {
-        self.hooks.push(*hook)
+        self.hooks.reserve()?;
+        self.hooks.add(*hook);
+        Ok(())
     }
 
     fn cut(&mut self, hook: &Name) {
-        self.hooks.remove(hook);
+        self.hooks.cut(hook);
+    }
+
+    fn lasting(&self) -> bool {
+        true
+    }
+
+    fn plan(&self, alloc: Global) -> Result<Option<Arc<Plan>>, NoMemory> {
+        Ok(Some(Arc::new(alloc, Plan::Socket)?))
+    }
+
+    fn absorb(&mut self, _counts: &Counts) {}
+
+    fn answer(&self, alloc: Global, _msg: &Msg) -> Result<Outcome, NoMemory> {
+        Ok(fails(alloc, Errno::INVAL))
     }
 
     fn write(&mut self, alloc: Global, body: &Body) -> Result<Outcome, NoMemory> {
-        let mut leaves = Sequence::new(alloc);
-        if let Body::Frame {
-            door: Door::Hook(_),
-            packet,
-            ..
-        } = body
-        {
-            leaves.push((Exit::Reader, packet.again()?))?;
+        match body {
+            Body::Frame {
+                door: Door::Hook(_),
+                packet,
+                ..
+            } => {
+                let mut leaves = Sequence::new(alloc);
+                leaves.push((Exit::Reader, packet.again()?))?;
+                Ok(Outcome {
+                    leaves,
+                    ..nothing(alloc)
+                })
+            }
+            Body::Msg(_) => Ok(fails(alloc, Errno::INVAL)),
+            _ => Ok(nothing(alloc)),
         }
-        Ok(Outcome {
-            sends: Sequence::new(alloc),
-            leaves,
-            answer: None,
-            counts: Sequence::new(alloc),
-            errno: Errno::NONE,
-        })
+    }
+
+    fn farewell(&self) -> Farewell {
+        Farewell::Stay
     }
 }
 
 /// A node of the type without hooks.
 ///
 /// # Errors
-/// `NoMemory` for want of memory alone.
+/// `NoMemory` where memory ran out, and for nothing else.
 pub fn blank_socket(alloc: Global) -> Result<SocketNode, NoMemory>
     ensures { IfOk result (λ node. socket_state node ≡ blank_of Kind.Socket) }
 {
     Ok(SocketNode {
-        hooks: Names::new(alloc),
+        hooks: HookList::new(alloc),
     })
 }

@@ -53,12 +53,12 @@ abbrev pub bytes_named : FilesState → List ℕ → Option (List ℕ)
 bytes_named state name = option_map (λ file. file.bytes) (file_named state.files name)
 
 -- how many bytes a call moves of a piece of `len` bytes, where `most` bytes are there or have room
-abbrev pub moved : Bool → ℕ → ℕ → ℕ
-moved slow len most = min (if slow then 1 else len) most
+abbrev pub moved_count : Bool → ℕ → ℕ → ℕ
+moved_count slow len most = min (if slow then 1 else len) most
 
 -- a read of `file` from the place `at` turns a piece `old` into `new`, and moves `count` bytes
 pub record Gives (file : FileState) (at : ℕ) (old new : List ℕ) (count : ℕ) : Type 0 where
-  pub number : count ≡ moved file.slow (length old) (length file.bytes - at)
+  pub number : count ≡ moved_count file.slow (length old) (length file.bytes - at)
   pub piece : new ≡ take count (drop at file.bytes) ++ drop count old
 
 -- this read fails: its number is listed, or there is no file of the name

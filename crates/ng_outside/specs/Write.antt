@@ -5,12 +5,12 @@ use Rattle.std.specs.Io.KnownBytes.{Appends}
 use Rattle.std.proofs.Common.{sym, ap, ◌∙◌, subst, append_assoc, append-nil}
 use Rattle.std.proofs.KnownBytes.{Appends-nil, Appends-trans}
 
--- it grew by some front of `bytes`: by all, a part or none of them
-pub record AppendsFront (old now : Option (List ℕ)) (bytes : List ℕ) : Type 0 where
-  pub front : List ℕ
+-- it grew by some prefix of `bytes`: by all, a part or none of them
+pub record AppendsPrefix (old now : Option (List ℕ)) (bytes : List ℕ) : Type 0 where
+  pub prefix : List ℕ
   pub rest : List ℕ
-  pub split : front ++ rest ≡ bytes
-  pub grown : Appends old now front
+  pub split : prefix ++ rest ≡ bytes
+  pub grown : Appends old now prefix
 
 -- it grew by all of `bytes` but `left`, which stands at their end
 pub record Written (old now : Option (List ℕ)) (bytes left : List ℕ) : Type 0 where
@@ -25,7 +25,8 @@ pub none_written : (old : Option (List ℕ)) (bytes : List ℕ) → Written old 
 none_written old bytes = record { done = []; split = refl; grown = Appends-nil old }
 
 -- one piece more of what was left
-pub more_written : (old now next : Option (List ℕ)) (bytes left piece after : List ℕ) → Written old now bytes left → left ≡ piece ++ after
+pub more_written : (old now next : Option (List ℕ)) (bytes left piece after : List ℕ) → Written old now bytes left
+    → left ≡ piece ++ after
     → Appends now next piece → Written old next bytes after
 more_written old now next bytes left piece after so_far is more = record {
   done = so_far.done ++ piece;
@@ -33,54 +34,64 @@ more_written old now next bytes left piece after so_far is more = record {
   grown = Appends-trans old now next so_far.done piece so_far.grown more;
 }
 
--- a front of one piece more, and then no more
-pub front_written : (old now next : Option (List ℕ)) (bytes left piece after : List ℕ) → Written old now bytes left → left ≡ piece ++ after
-    → AppendsFront now next piece → AppendsFront old next bytes
-front_written old now next bytes left piece after so_far is more = record {
-  front = so_far.done ++ more.front;
+-- a prefix of one piece more, and then no more
+pub prefix_written : (old now next : Option (List ℕ)) (bytes left piece after : List ℕ) → Written old now bytes left
+    → left ≡ piece ++ after
+    → AppendsPrefix now next piece → AppendsPrefix old next bytes
+prefix_written old now next bytes left piece after so_far is more = record {
+  prefix = so_far.done ++ more.prefix;
   rest = more.rest ++ after;
-  split = append_assoc so_far.done more.front (more.rest ++ after)
-      ∙ ap (λ (l : List ℕ). so_far.done ++ l) (sym (append_assoc more.front more.rest after) ∙ ap (λ (l : List ℕ). l ++ after) more.split ∙ sym is)
+  split = append_assoc so_far.done more.prefix (more.rest ++ after)
+      ∙ ap (λ (l : List ℕ). so_far.done ++ l)
+      (sym (append_assoc more.prefix more.rest after) ∙ ap (λ (l : List ℕ). l ++ after) more.split ∙ sym is)
       ∙ so_far.split;
-  grown = Appends-trans old now next so_far.done more.front so_far.grown more.grown;
+  grown = Appends-trans old now next so_far.done more.prefix so_far.grown more.grown;
 }
 
--- what is written so far is a front
-pub written_front : (old now : Option (List ℕ)) (bytes left : List ℕ) → Written old now bytes left → AppendsFront old now bytes
-written_front old now bytes left so_far = record { front = so_far.done; rest = left; split = so_far.split; grown = so_far.grown }
+-- what is written so far is a prefix
+pub written_prefix : (old now : Option (List ℕ)) (bytes left : List ℕ) → Written old now bytes left → AppendsPrefix old now bytes
+written_prefix old now bytes left so_far =
+    record { prefix = so_far.done; rest = left; split = so_far.split; grown = so_far.grown }
 
 -- nothing is left
-pub all_written : (old now : Option (List ℕ)) (bytes left : List ℕ) → Written old now bytes left → left ≡ [] → Appends old now bytes
+pub all_written : (old now : Option (List ℕ)) (bytes left : List ℕ) → Written old now bytes left → left ≡ []
+    → Appends old now bytes
 all_written old now bytes left so_far none =
-    let whole : so_far.done ≡ bytes = sym (append-nil so_far.done) ∙ ap (λ (l : List ℕ). so_far.done ++ l) (sym none) ∙ so_far.split in
+    let whole : so_far.done ≡ bytes =
+    sym (append-nil so_far.done)
+    ∙ ap (λ (l : List ℕ). so_far.done ++ l) (sym none)
+    ∙ so_far.split in
     subst (λ (l : List ℕ). Appends old now l) whole so_far.grown
 
 -- the same for bytes that are not all known yet: what stands whole so far, and what comes
-pub Appends-written : (old now : Option (List ℕ)) (bytes left : List ℕ) → Appends old now bytes → Written old now (bytes ++ left) left
+pub Appends-written : (old now : Option (List ℕ)) (bytes left : List ℕ) → Appends old now bytes
+    → Written old now (bytes ++ left) left
 Appends-written old now bytes left grown = record { done = bytes; split = refl; grown = grown }
 
-pub Appends-front : (old now next : Option (List ℕ)) (bytes piece : List ℕ) → Appends old now bytes → AppendsFront now next piece
-    → AppendsFront old next (bytes ++ piece)
-Appends-front old now next bytes piece grown more = record {
-  front = bytes ++ more.front;
+pub Appends-prefix : (old now next : Option (List ℕ)) (bytes piece : List ℕ) → Appends old now bytes
+    → AppendsPrefix now next piece
+    → AppendsPrefix old next (bytes ++ piece)
+Appends-prefix old now next bytes piece grown more = record {
+  prefix = bytes ++ more.prefix;
   rest = more.rest;
-  split = append_assoc bytes more.front more.rest ∙ ap (λ (l : List ℕ). bytes ++ l) more.split;
-  grown = Appends-trans old now next bytes more.front grown more.grown;
+  split = append_assoc bytes more.prefix more.rest ∙ ap (λ (l : List ℕ). bytes ++ l) more.split;
+  grown = Appends-trans old now next bytes more.prefix grown more.grown;
 }
 
--- a front of bytes is a front of more bytes
-pub AppendsFront-more : (old now : Option (List ℕ)) (bytes more : List ℕ) → AppendsFront old now bytes → AppendsFront old now (bytes ++ more)
-AppendsFront-more old now bytes more part = record {
-  front = part.front;
+-- a prefix of bytes is a prefix of more bytes
+pub AppendsPrefix-more : (old now : Option (List ℕ)) (bytes more : List ℕ) → AppendsPrefix old now bytes
+    → AppendsPrefix old now (bytes ++ more)
+AppendsPrefix-more old now bytes more part = record {
+  prefix = part.prefix;
   rest = part.rest ++ more;
-  split = sym (append_assoc part.front part.rest more) ∙ ap (λ (l : List ℕ). l ++ more) part.split;
+  split = sym (append_assoc part.prefix part.rest more) ∙ ap (λ (l : List ℕ). l ++ more) part.split;
   grown = part.grown;
 }
 
--- all of them is a front of them
-pub Appends-is_front : (old now : Option (List ℕ)) (bytes : List ℕ) → Appends old now bytes → AppendsFront old now bytes
-Appends-is_front old now bytes grown = record { front = bytes; rest = []; split = append-nil bytes; grown = grown }
+-- all of them is a prefix of them
+pub Appends-is_prefix : (old now : Option (List ℕ)) (bytes : List ℕ) → Appends old now bytes → AppendsPrefix old now bytes
+Appends-is_prefix old now bytes grown = record { prefix = bytes; rest = []; split = append-nil bytes; grown = grown }
 
--- none of them is a front of them
-pub none_front : (old : Option (List ℕ)) (bytes : List ℕ) → AppendsFront old old bytes
-none_front old bytes = record { front = []; rest = bytes; split = refl; grown = Appends-nil old }
+-- none of them is a prefix of them
+pub none_prefix : (old : Option (List ℕ)) (bytes : List ℕ) → AppendsPrefix old old bytes
+none_prefix old bytes = record { prefix = []; rest = bytes; split = refl; grown = Appends-nil old }

@@ -4,7 +4,7 @@ ghost use Rattle.std.specs.Option.{option_copied, option_map};
 ghost use Rattle.std.specs.Str.{bytes_eq};
 ghost use Rattle.ng_outside.specs.Count.{next_count, Rose};
 ghost use Rattle.ng_outside.specs.Read.{ReadsAt};
-ghost use Rattle.ng_outside.specs.Memory.{file_state, file_named, bytes_named, moved, HasRoom, NamesDiffer, FitRooms, ReadFails, Gives};
+ghost use Rattle.ng_outside.specs.Memory.{file_state, file_named, bytes_named, moved_count, HasRoom, NamesDiffer, FitRooms, ReadFails, Gives};
 
 use crate::{Failed, Files};
 use ng_base::NoMemory;
@@ -27,7 +27,7 @@ pub struct MemFile {
 /// Files in memory. They tell what they hold, and fail where they are told to.
 ///
 /// A call fails exactly where its number is listed, or no file of its name was handed in. The number
-/// is counted from 1 over all calls. A failed call changes nothing that is held, and raises the count
+/// is counted from 1 over all calls. A failed call changes no contents, and raises the count
 /// of faults by one, up to its last value.
 #[derive(Debug, Drop)]
 pub struct MemFiles {
@@ -43,15 +43,20 @@ impl Model for MemFiles {
 
     ghost Value = { FilesState };
 
-    ghost view = { λ m. record { files = map file_state m.files.items; failing = m.failing.items; calls = m.calls; faults = m.faults } };
+    ghost view = { λ m. record {
+      files = map file_state m.files.items;
+      failing = m.failing.items;
+      calls = m.calls;
+      faults = m.faults;
+    } };
 
     ghost invariant = { λ m. All HasRoom m.files.items };
 }
 
-// Copies the front of what stands in `bytes` from `at` on to the front of `into`.
+// Copies what stands in `bytes` from `at` on to the start of `into`, as much as there is and fits.
 fn copy_from(bytes: &[u8], at: u64, slow: bool, into: &mut [u8]) -> usize
     requires { 0 < length into.old }
-    ensures number { result ≡ moved slow (length into.old) (length bytes.now - at) }
+    ensures number { result ≡ moved_count slow (length into.old) (length bytes.now - at) }
     ensures piece { into.new ≡ take result (drop at bytes.now) ++ drop result into.old }
 {
     let start = bytes.len().min(at as usize);
@@ -86,21 +91,31 @@ fn reserve_room(file: &mut MemFile) -> Result<(), NoMemory>
 }
 
 impl MemFiles {
-    /// Files in memory that hold `held`, and whose calls of the numbers `faults` fail. The names
+    /// The files `initial` in memory, whose calls of the numbers `faults` fail. The names
     /// differ, and each file's bytes fit its room. The room of each file is reserved here, by the
     /// allocator that its bytes came with, so no other call takes memory.
     ///
     /// # Errors
-    /// `NoMemory` for want of memory alone.
-    pub fn new(_alloc: Global, held: Vec<MemFile>, faults: Vec<u64>) -> Result<MemFiles, NoMemory>
-        requires names { NamesDiffer held.items }
-        requires rooms { FitRooms held.items }
-        ensures made { IfOk result (λ files. files ≡ record { files = map file_state held.items; failing = faults.items; calls = 0; faults = 0 }) }
+    /// `NoMemory` where memory ran out, and for nothing else.
+    pub fn new(
+        _alloc: Global,
+        initial: Vec<MemFile>,
+        faults: Vec<u64>,
+    ) -> Result<MemFiles, NoMemory>
+        requires names { NamesDiffer initial.items }
+        requires rooms { FitRooms initial.items }
+        ensures made { IfOk result (λ files. files ≡ record {
+          files = map file_state initial.items;
+          failing = faults.items;
+          calls = 0;
+          faults = 0;
+        }) }
 
         // Each name holds what its file was handed in with.
-        ensures held { IfOk result (λ files. All (λ file. bytes_named files (string_bytes file.name) ≡ Some file.bytes.items) held.items) }
+        ensures contents { IfOk result (λ files.
+            All (λ file. bytes_named files (string_bytes file.name) ≡ Some file.bytes.items) initial.items) }
     {
-        let mut files = held;
+        let mut files = initial;
         for i in 0..files.len() {
             reserve_room(&mut files[i])?;
         }
@@ -135,7 +150,7 @@ impl MemFiles {
 }
 
 impl Files for MemFiles {
-    ghost held = { bytes_named };
+    ghost contents = { bytes_named };
 
     ghost faults = { λ state _. state.faults };
 
@@ -144,13 +159,18 @@ impl Files for MemFiles {
     fn read(&mut self, name: &str, at: u64, into: &mut [u8]) -> Result<usize, Failed>
         requires { 0 < length into.old }
         ensures failed { IsErr result ↔ ReadFails self.old name.now }
-        ensures gives { IfOk result (λ count. IfSome (file_named self.old.files name.now) (λ file. Gives file at into.old into.new count)) }
+        ensures gives { IfOk result (λ count.
+            IfSome (file_named self.old.files name.now) (λ file. Gives file at into.old into.new count)) }
         ensures ok { OnOk result (self.new ≡ record self.old { calls = next_count self.old.calls }) }
-        ensures err { OnErr result (self.new ≡ record self.old { calls = next_count self.old.calls; faults = next_count self.old.faults }) }
+        ensures err { OnErr result (self.new ≡ record self.old {
+          calls = next_count self.old.calls;
+          faults = next_count self.old.faults;
+        }) }
 
         // What every implementation promises.
         ensures within { IfOk result (λ count. count ≤ length into.new) }
-        ensures bytes { IfOk result (λ count. IfSome (bytes_named self.old name.now) (λ bytes. ReadsAt bytes at into.new count)) }
+        ensures bytes { IfOk result (λ count.
+            IfSome (bytes_named self.old name.now) (λ bytes. ReadsAt bytes at into.new count)) }
         ensures same { bytes_named self.new ≡ bytes_named self.old }
         ensures counts { (other : List ℕ) → self.old.faults ≤ self.new.faults }
         ensures cause { OnErr result (Rose self.old.faults self.new.faults) }

@@ -2,7 +2,7 @@
 ghost use Rattle.std.specs.Prelude.{◌≡◌, ◌++◌, ◌-◌, ◌≤◌, ◌<◌, ◌↔◌, Some, [], take, length, IfOk, OnOk, OnErr, IsErr};
 ghost use Rattle.std.specs.Io.KnownBytes.{Appends};
 ghost use Rattle.ng_outside.specs.Count.{next_count, Rose};
-ghost use Rattle.ng_outside.specs.Memory.{moved, PutFails};
+ghost use Rattle.ng_outside.specs.Memory.{moved_count, PutFails};
 
 use crate::{Failed, Sink};
 use ng_base::NoMemory;
@@ -12,7 +12,7 @@ use std::marker::Model;
 /// A sink in memory. It tells what it holds, and fails where it is told to.
 ///
 /// A call fails exactly where its number is listed, or no room is left. The number is counted from 1
-/// over all calls. A failed call changes nothing that is held, and raises the count of faults by one,
+/// over all calls. A failed call changes no contents, and raises the count of faults by one,
 /// up to its last value.
 #[derive(Debug, Drop)]
 pub struct MemSink {
@@ -31,7 +31,14 @@ impl Model for MemSink {
 
     ghost Value = { SinkState };
 
-    ghost view = { λ m. record { bytes = m.bytes.items; room = m.room; slow = m.slow; failing = m.failing.items; calls = m.calls; faults = m.faults } };
+    ghost view = { λ m. record {
+      bytes = m.bytes.items;
+      room = m.room;
+      slow = m.slow;
+      failing = m.failing.items;
+      calls = m.calls;
+      faults = m.faults;
+    } };
 
     ghost invariant = { λ m. vec_len m.bytes + m.room ≤ vec_capacity m.bytes };
 }
@@ -42,14 +49,21 @@ impl MemSink {
     /// call takes memory.
     ///
     /// # Errors
-    /// `NoMemory` for want of memory alone.
+    /// `NoMemory` where memory ran out, and for nothing else.
     pub fn new(
         alloc: Global,
         room: usize,
         slow: bool,
         faults: Vec<u64>,
     ) -> Result<MemSink, NoMemory>
-        ensures { IfOk result (λ sink. sink ≡ record { bytes = []; room = room; slow = slow; failing = faults.items; calls = 0; faults = 0 }) }
+        ensures { IfOk result (λ sink. sink ≡ record {
+          bytes = [];
+          room = room;
+          slow = slow;
+          failing = faults.items;
+          calls = 0;
+          faults = 0;
+        }) }
     {
         Ok(MemSink {
             bytes: Vec::with_capacity(alloc, room)?,
@@ -91,7 +105,7 @@ impl MemSink {
 }
 
 impl Sink for MemSink {
-    ghost held = { λ state. Some state.bytes };
+    ghost contents = { λ state. Some state.bytes };
 
     ghost faults = { λ state. state.faults };
 
@@ -100,9 +114,16 @@ impl Sink for MemSink {
     fn put(&mut self, bytes: &[u8]) -> Result<usize, Failed>
         requires { 0 < length bytes.now }
         ensures failed { IsErr result ↔ PutFails self.old }
-        ensures number { IfOk result (λ count. count ≡ moved self.old.slow (length bytes.now) self.old.room) }
-        ensures ok { IfOk result (λ count. self.new ≡ record self.old { bytes = self.old.bytes ++ take count bytes.now; room = self.old.room - count; calls = next_count self.old.calls }) }
-        ensures err { OnErr result (self.new ≡ record self.old { calls = next_count self.old.calls; faults = next_count self.old.faults }) }
+        ensures number { IfOk result (λ count. count ≡ moved_count self.old.slow (length bytes.now) self.old.room) }
+        ensures ok { IfOk result (λ count. self.new ≡ record self.old {
+          bytes = self.old.bytes ++ take count bytes.now;
+          room = self.old.room - count;
+          calls = next_count self.old.calls;
+        }) }
+        ensures err { OnErr result (self.new ≡ record self.old {
+          calls = next_count self.old.calls;
+          faults = next_count self.old.faults;
+        }) }
 
         // What every implementation promises.
         ensures some { IfOk result (λ count. 0 < count) }

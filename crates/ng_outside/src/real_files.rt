@@ -50,7 +50,7 @@ fn read_at<R: rt::Files>(rt: &R, name: &str, at: u64, into: &mut [u8]) -> io::Re
 }
 
 impl<R: rt::Files> Files for StdFiles<R> {
-    ghost held = { λ _ _. None };
+    ghost contents = { λ _ _. None };
 
     ghost faults = { λ count _. count };
 

@@ -1,4 +1,4 @@
-// Worked rows: what files and sinks in memory give at each call, and one of the real ones.
+// What no clause says: how many calls there are, that calls succeed where there is memory, and the real ones.
 mod memory;
 mod real;
 mod whole;

@@ -1,5 +1,6 @@
 -- Words, numbers, strings and addresses that were printed are read again.
-use Rattle.std.proofs.Common.{◌≡◌, ◌<◌, ◌≤◌, ◌+◌, ◌-◌, ◌*◌, ◌/◌, ◌%◌, ◌^◌, ℕ, zero, suc, Bool, true, false, eqb, ltb, leb, ◌&&◌, not, ◌⊎◌, List, [], ◌∷◌, ◌++◌, length, get_or, Some, Ok, refl, sym, ap, ◌∙◌, subst, append_assoc, eq-eqb, inl, inr, arith, length-append}
+use Rattle.std.proofs.Common.{◌≡◌, ◌<◌, ◌≤◌, ◌+◌, ◌-◌, ◌*◌, ◌/◌, ◌%◌, ◌^◌, ℕ, zero, suc, Bool, true, false, eqb, ltb, leb, ◌&&◌, not, ◌⊎◌, List, []}
+use Rattle.std.proofs.Common.{◌∷◌, ◌++◌, length, get_or, Some, Ok, refl, sym, ap, ◌∙◌, subst, append_assoc, eq-eqb, inl, inr, arith, length-append}
 use Rattle.std.specs.Char.{digit_value}
 use Rattle.std.specs.Fmt.{decimal, digits, digits_onto, digit_glyph}
 use Rattle.std.specs.List.{flat_map, list_all}
@@ -10,11 +11,13 @@ use Rattle.std.proofs.lemmas.Bool.{and_parts, cases_lt, lt-ltb, le-ltb, le-leb}
 use Rattle.std.proofs.lemmas.Bool.Decides.{nat_tests, eqb_tells}
 use Rattle.std.proofs.lemmas.List.{drop_at, append-nil}
 use Rattle.std.proofs.lemmas.Fmt.{decimal_is_IsNumeral, first_decimal, decimal_digit, digits_is_IsNumeral}
-use Rattle.ng_shape.specs.Shapes.{is_word_byte}
-use Rattle.ng_shape.specs.Values.{Num, Bytes}
+use Rattle.ng_shape.specs.Sound.{is_word_byte}
+use Rattle.ng_shape.specs.Values.{Number, Text}
 use Rattle.ng_shape.specs.Canonical.{AreBytes, AreChars}
-use Rattle.ng_parse.specs.Tokens.{is_blank, skip, word, after_word, starts, all_digits, number_in, signed_in, group_in, next_group_in, groups_in, address_in}
-use Rattle.ng_parse.specs.Reading.{limit, unsigned_at, signed_below, signed_at, char_at, char_below, string_char, string_at, repeated, address_at, is_empty, has_index}
+use Rattle.ng_parse.specs.Tokens.{is_blank, skip_blanks, word, after_word, starts, all_digits, number_in, signed_in, group_in, next_group_in}
+use Rattle.ng_parse.specs.Tokens.{groups_in, address_in}
+use Rattle.ng_parse.specs.Reading.{limit, unsigned_at, signed_below, signed_at, char_at, char_below, string_char, string_at, repeat, address_at}
+use Rattle.ng_parse.specs.Reading.{is_empty, has_index}
 use Rattle.ng_parse.specs.Printing.{print_signed, print_hex, two_digits, print_char, print_string, print_groups, print_address}
 
 -- ---- words
@@ -51,7 +54,7 @@ abbrev pub Front : List ℕ → Type 0
 Front [] = ⊥
 Front (b ∷ bs) = (is_blank b ≡ false) × (eqb b 61 ≡ false) × (eqb b 93 ≡ false) × (eqb b 125 ≡ false)
 
-pub skip_front : (text : List ℕ) → Front text → skip text ≡ text
+pub skip_front : (text : List ℕ) → Front text → skip_blanks text ≡ text
 skip_front [] front = absurd front
 skip_front (b ∷ bs) front = rw front.0 refl
 
@@ -76,7 +79,7 @@ and_no true = refl
 and_no false = refl
 
 -- a word is no index unless = follows it
-pub no_index : (w rest : List ℕ) → AreWord w → Ends rest → starts 61 (skip rest) ≡ false → has_index (w ++ rest) ≡ false
+pub no_index : (w rest : List ℕ) → AreWord w → Ends rest → starts 61 (skip_blanks rest) ≡ false → has_index (w ++ rest) ≡ false
 no_index w rest all e other = rw (word_is w rest all e, drop_at w rest (length w) refl, other) (and_no (not (is_empty w)))
 
 some_word : (w : List ℕ) → 0 < length w → not (is_empty w) ≡ true
@@ -138,7 +141,7 @@ hex_word n lt =
     (refl, (refl, digits_are_word 16 (digits 16 false n) (omega arith) d.0.1))
 
 -- a word that says a number is read as that number
-pub unsigned_again : (bits n : ℕ) (w rest : List ℕ) → AreWord w → Ends rest → number_in w ≡ Some n → n < limit bits → unsigned_at bits (w ++ rest) ≡ Ok (Num (length (w ++ rest)) n, rest)
+pub unsigned_again : (bits n : ℕ) (w rest : List ℕ) → AreWord w → Ends rest → number_in w ≡ Some n → n < limit bits → unsigned_at bits (w ++ rest) ≡ Ok (Number (length (w ++ rest)) n, rest)
 unsigned_again bits n w rest all e says lt =
     let front : word (w ++ rest) ≡ w = word_is w rest all e in
     let behind : after_word (w ++ rest) ≡ rest = behind_word w rest all e in
@@ -166,7 +169,7 @@ below_64 bits =
 pub low_64 : (bits n : ℕ) → n < limit bits → n < 2 ^ 64
 low_64 bits n lt = omega (arith, below_64 bits)
 
-positive_again : (bits n : ℕ) (rest : List ℕ) → Ends rest → n < limit bits → 2 * n < limit bits → signed_at bits (decimal n ++ rest) ≡ Ok (Num (length (decimal n ++ rest)) n, rest)
+positive_again : (bits n : ℕ) (rest : List ℕ) → Ends rest → n < limit bits → 2 * n < limit bits → signed_at bits (decimal n ++ rest) ≡ Ok (Number (length (decimal n ++ rest)) n, rest)
 positive_again bits n rest e lt low =
     let small = low_64 bits n lt in
     let d = decimal_is_IsNumeral n small in
@@ -176,7 +179,7 @@ positive_again bits n rest e lt low =
     let behind : after_word (decimal n ++ rest) ≡ rest = behind_word (decimal n) rest all e in
     rw (front, says, lt-ltb (2 * n) (limit bits) low, behind) refl
 
-negative_again : (bits n m : ℕ) (rest : List ℕ) → Ends rest → n < limit bits → limit bits ≤ 2 * n → m ≡ limit bits - n → signed_at bits (45 ∷ decimal m ++ rest) ≡ Ok (Num (length (45 ∷ decimal m ++ rest)) n, rest)
+negative_again : (bits n m : ℕ) (rest : List ℕ) → Ends rest → n < limit bits → limit bits ≤ 2 * n → m ≡ limit bits - n → signed_at bits (45 ∷ decimal m ++ rest) ≡ Ok (Number (length (45 ∷ decimal m ++ rest)) n, rest)
 negative_again bits n m rest e lt high is =
     let small : m < 2 ^ 64 = omega (arith, below_64 bits) in
     let d = decimal_is_IsNumeral m small in
@@ -189,7 +192,7 @@ negative_again bits n m rest e lt high is =
     let fits : leb (2 * m) (limit bits) ≡ true = le-leb (2 * m) (limit bits) (omega arith) in
     ap (signed_below (limit bits) (45 ∷ decimal m ++ rest)) (ap signed_in front ∙ says) ∙ rw (fits, back, value, behind) refl
 
-pub signed_again : (bits n : ℕ) (rest : List ℕ) → Ends rest → n < limit bits → signed_at bits (print_signed bits n ++ rest) ≡ Ok (Num (length (print_signed bits n ++ rest)) n, rest)
+pub signed_again : (bits n : ℕ) (rest : List ℕ) → Ends rest → n < limit bits → signed_at bits (print_signed bits n ++ rest) ≡ Ok (Number (length (print_signed bits n ++ rest)) n, rest)
 signed_again bits n rest e lt =
     elim (cases_lt (2 * n) (limit bits)) [
       | inl low ↦ rw (lt-ltb (2 * n) (limit bits) low) (positive_again bits n rest e lt low)
@@ -242,8 +245,8 @@ below_again n c whole so_far t some lt =
     let b : leb n (length so_far + 1) ≡ false = grind (arith, nat_tests) in
     rw (a, b) refl
 
-chars_again : (n : ℕ) (whole cs : List ℕ) (k : ℕ) (so_far rest : List ℕ) → length cs < k → length so_far + length cs < n → AreChars cs → repeated (string_char n whole) k so_far (flat_map print_char cs ++ 34 ∷ rest) ≡ Ok (so_far ++ cs, rest)
-unfolding repeated
+chars_again : (n : ℕ) (whole cs : List ℕ) (k : ℕ) (so_far rest : List ℕ) → length cs < k → length so_far + length cs < n → AreChars cs → repeat (string_char n whole) k so_far (flat_map print_char cs ++ 34 ∷ rest) ≡ Ok (so_far ++ cs, rest)
+unfolding repeat
 chars_again n whole cs zero so_far rest lt room all = absurd (omega arith)
 chars_again n whole [] (suc k) so_far rest lt room all = ap (λ (x : List ℕ). Ok (x, rest)) (sym (append-nil so_far))
 chars_again n whole (c ∷ cs) (suc k) so_far rest lt room all =
@@ -251,7 +254,7 @@ chars_again n whole (c ∷ cs) (suc k) so_far rest lt room all =
     let split : flat_map print_char (c ∷ cs) ++ 34 ∷ rest ≡ print_char c ++ more = ap (λ (x : List ℕ). x ++ 34 ∷ rest) (flat_map-cons print_char c cs) ∙ append_assoc (print_char c) (flat_map print_char cs) (34 ∷ rest) in
     let one : string_char n whole so_far (print_char c ++ more) ≡ Ok (Some c, more) = ap (char_below n whole so_far) (char_again c more all.1) ∙ below_again n c whole so_far more all.0 (omega arith) in
     let long = length-append so_far (c ∷ []) in
-    ap (repeated (string_char n whole) (suc k) so_far) split ∙ rw one (chars_again n whole cs k (so_far ++ c ∷ []) rest (omega arith) (omega (arith, long)) all.2 ∙ ap (λ (x : List ℕ). Ok (x, rest)) (append_assoc so_far (c ∷ []) cs))
+    ap (repeat (string_char n whole) (suc k) so_far) split ∙ rw one (chars_again n whole cs k (so_far ++ c ∷ []) rest (omega arith) (omega (arith, long)) all.2 ∙ ap (λ (x : List ℕ). Ok (x, rest)) (append_assoc so_far (c ∷ []) cs))
 
 some_char : (c : ℕ) → 1 ≤ length (print_char c)
 some_char c = grind (arith, nat_tests)
@@ -260,13 +263,13 @@ flat_len : (cs : List ℕ) → length cs ≤ length (flat_map print_char cs)
 flat_len [] = omega arith
 flat_len (c ∷ cs) = rw (flat_map-cons print_char c cs) (omega (arith, length-append (print_char c) (flat_map print_char cs), some_char c, flat_len cs))
 
-pub string_again : (n : ℕ) (cs rest : List ℕ) → AreChars cs → length cs < n → string_at n (print_string cs ++ rest) ≡ Ok (Bytes cs, rest)
+pub string_again : (n : ℕ) (cs rest : List ℕ) → AreChars cs → length cs < n → string_at n (print_string cs ++ rest) ≡ Ok (Text cs, rest)
 unfolding string_at
 string_again n cs rest all lt =
     let text = flat_map print_char cs ++ 34 ∷ rest in
     let regrouped : print_string cs ++ rest ≡ 34 ∷ text = ap (λ (x : List ℕ). 34 ∷ x) (append_assoc (flat_map print_char cs) (34 ∷ []) rest) in
     let long : length cs < length text = omega (arith, flat_len cs, length-append (flat_map print_char cs) (34 ∷ rest)) in
-    let inner : repeated (string_char n (34 ∷ text)) (length text) [] text ≡ Ok (cs, rest) = chars_again n (34 ∷ text) cs (length text) [] rest long (omega arith) all in
+    let inner : repeat (string_char n (34 ∷ text)) (length text) [] text ≡ Ok (cs, rest) = chars_again n (34 ∷ text) cs (length text) [] rest long (omega arith) all in
     ap (string_at n) regrouped ∙ rw inner refl
 
 -- ---- addresses
@@ -311,7 +314,7 @@ pub address_word : (cs : List ℕ) → AreBytes cs → length cs ≡ 6 → (0 < 
 address_word [] all long = absurd (omega (arith, long))
 address_word (c ∷ cs) all long = (omega (arith, length-append (two_digits c) (print_groups cs)), words_join (two_digits c) (print_groups cs) (two_word c all.0) (groups_word cs all.1))
 
-pub address_again : (cs rest : List ℕ) → AreBytes cs → length cs ≡ 6 → Ends rest → address_at (print_address cs ++ rest) ≡ Ok (Bytes cs, rest)
+pub address_again : (cs rest : List ℕ) → AreBytes cs → length cs ≡ 6 → Ends rest → address_at (print_address cs ++ rest) ≡ Ok (Text cs, rest)
 address_again cs rest all long e =
     let w = print_address cs in
     let word' = address_word cs all long in

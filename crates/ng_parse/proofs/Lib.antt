@@ -8,6 +8,6 @@ pub mod Fitting
 pub mod Again
 pub mod Like
 pub mod Proper
-pub mod Rows
+pub mod Arrays
 pub mod Fields
 pub mod RoundTrip

@@ -1,53 +1,54 @@
 -- Values that have the same bytes: they differ in places alone, and in the order in which members were given.
 use Rattle.std.proofs.Common.{◌≡◌, ◌+◌, ℕ, zero, suc, List, ◌++◌, length, Option, Some, None, refl, ap, inl, inr, arith}
 use Rattle.std.specs.Str.{bytes_eq}
-use Rattle.ng_shape.specs.Forms.{Form, Empty, Unsigned, Signed, Hexadecimal, Chars, Address, Fields, Row, CountedRow, Parts, no_parts, part, Counter, by_own, by_inner, one_more, field_number, form_named, parts_inside}
+use Rattle.ng_shape.specs.Shape.{Shape, Nothing, UInt, Int, Hex, Str, Ether, Struct, Array, Counted, Fields, no_fields, field, CountField, Own}
+use Rattle.ng_shape.specs.Shape.{Inside, one_more, field_number, shape_named, fields_inside}
 use Rattle.ng_shape.specs.Values.{Value, number, chars, members, find, find_if, find_named, count_in}
-use Rattle.ng_shape.specs.Layout.{text_bytes, row_bytes, layout, parts_bytes, closed}
+use Rattle.ng_shape.specs.Layout.{text_bytes, array_bytes, layout, fields_bytes, pad_end}
 use Rattle.ng_shape.proofs.Lookups.{bool_cases}
 
 abbrev mutual
-  pub Like : Form → Value → Value → Type 0
-  Like Empty v w = number v ≡ number w
-  Like (Unsigned bits) v w = number v ≡ number w
-  Like (Signed bits) v w = number v ≡ number w
-  Like (Hexadecimal bits) v w = number v ≡ number w
-  Like (Chars n) v w = (number v ≡ number w) × (chars v ≡ chars w)
-  Like Address v w = (number v ≡ number w) × (text_bytes 6 (chars v) ≡ text_bytes 6 (chars w))
-  Like (Fields ps) v w = (number v ≡ number w) × LikeParts ps (members v) (members w) 0
-  Like (Row n f) v w = (number v ≡ number w) × ((j : ℕ) → Like f (find j (members v)) (find j (members w)))
-  Like (CountedRow by max f) v w = (number v ≡ number w) × ((j : ℕ) → Like f (find j (members v)) (find j (members w)))
+  pub Like : Shape → Value → Value → Type 0
+  Like Nothing v w = number v ≡ number w
+  Like (UInt bits) v w = number v ≡ number w
+  Like (Int bits) v w = number v ≡ number w
+  Like (Hex bits) v w = number v ≡ number w
+  Like (Str n) v w = (number v ≡ number w) × (chars v ≡ chars w)
+  Like Ether v w = (number v ≡ number w) × (text_bytes 6 (chars v) ≡ text_bytes 6 (chars w))
+  Like (Struct ps) v w = (number v ≡ number w) × LikeFields ps (members v) (members w) 0
+  Like (Array n f) v w = (number v ≡ number w) × ((j : ℕ) → Like f (find j (members v)) (find j (members w)))
+  Like (Counted by max f) v w = (number v ≡ number w) × ((j : ℕ) → Like f (find j (members v)) (find j (members w)))
 
-  pub LikeParts : Parts → List (ℕ × Value) → List (ℕ × Value) → ℕ → Type 0
-  LikeParts no_parts ms ks i = Unit {0}
-  LikeParts (part name f ps) ms ks i = Like f (find i ms) (find i ks) × LikeParts ps ms ks (i + 1)
+  pub LikeFields : Fields → List (ℕ × Value) → List (ℕ × Value) → ℕ → Type 0
+  LikeFields no_fields ms ks i = Unit {0}
+  LikeFields (field name f ps) ms ks i = Like f (find i ms) (find i ks) × LikeFields ps ms ks (i + 1)
 
 mutual
-  pub like_same : (f : Form) (v : Value) → Like f v v
-  like_same Empty v = refl
-  like_same (Unsigned bits) v = refl
-  like_same (Signed bits) v = refl
-  like_same (Hexadecimal bits) v = refl
-  like_same (Chars n) v = (refl, refl)
-  like_same Address v = (refl, refl)
-  like_same (Fields ps) v = (refl, parts_same ps (members v) 0)
-  like_same (Row n f) v = (refl, λ j. like_same f (find j (members v)))
-  like_same (CountedRow by max f) v = (refl, λ j. like_same f (find j (members v)))
+  pub like_same : (f : Shape) (v : Value) → Like f v v
+  like_same Nothing v = refl
+  like_same (UInt bits) v = refl
+  like_same (Int bits) v = refl
+  like_same (Hex bits) v = refl
+  like_same (Str n) v = (refl, refl)
+  like_same Ether v = (refl, refl)
+  like_same (Struct ps) v = (refl, fields_same ps (members v) 0)
+  like_same (Array n f) v = (refl, λ j. like_same f (find j (members v)))
+  like_same (Counted by max f) v = (refl, λ j. like_same f (find j (members v)))
 
-  parts_same : (ps : Parts) (ms : List (ℕ × Value)) (i : ℕ) → LikeParts ps ms ms i
-  parts_same no_parts ms i = tt
-  parts_same (part name f ps) ms i = (like_same f (find i ms), parts_same ps ms (i + 1))
+  fields_same : (ps : Fields) (ms : List (ℕ × Value)) (i : ℕ) → LikeFields ps ms ms i
+  fields_same no_fields ms i = tt
+  fields_same (field name f ps) ms i = (like_same f (find i ms), fields_same ps ms (i + 1))
 
-pub like_number : (f : Form) (v w : Value) → Like f v w → number v ≡ number w
-like_number Empty v w like = like
-like_number (Unsigned bits) v w like = like
-like_number (Signed bits) v w like = like
-like_number (Hexadecimal bits) v w like = like
-like_number (Chars n) v w like = like.0
-like_number Address v w like = like.0
-like_number (Fields ps) v w like = like.0
-like_number (Row n f) v w like = like.0
-like_number (CountedRow by max f) v w like = like.0
+pub like_number : (f : Shape) (v w : Value) → Like f v w → number v ≡ number w
+like_number Nothing v w like = like
+like_number (UInt bits) v w like = like
+like_number (Int bits) v w like = like
+like_number (Hex bits) v w like = like
+like_number (Str n) v w like = like.0
+like_number Ether v w like = like.0
+like_number (Struct ps) v w like = like.0
+like_number (Array n f) v w like = like.0
+like_number (Counted by max f) v w like = like.0
 
 -- ---- counts
 
@@ -64,66 +65,66 @@ shifted_none None = refl
 shifted_none (Some k) = let same : k + 0 ≡ k = omega arith in ap (λ (n : ℕ). Some n) same
 
 -- what the name finds among the fields from number i on
-number_found : (ps : Parts) (name : List ℕ) (ms ks : List (ℕ × Value)) (i : ℕ) → LikeParts ps ms ks i → number (find_if (shifted i (field_number ps name)) ms) ≡ number (find_if (shifted i (field_number ps name)) ks)
-number_found no_parts name ms ks i like = refl
-number_found (part n f ps) name ms ks i like =
+number_found : (ps : Fields) (name : List ℕ) (ms ks : List (ℕ × Value)) (i : ℕ) → LikeFields ps ms ks i → number (find_if (shifted i (field_number ps name)) ms) ≡ number (find_if (shifted i (field_number ps name)) ks)
+number_found no_fields name ms ks i like = refl
+number_found (field n f ps) name ms ks i like =
     elim (bool_cases (bytes_eq n name)) [
       | inl hit ↦ let here : 0 + i ≡ i = omega arith in rw (hit, here) (like_number f (find i ms) (find i ks) like.0)
       | inr miss ↦ rw (miss, shifted_more i (field_number ps name)) (number_found ps name ms ks (i + 1) like.1)
     ]
 
-inside_of : (f : Form) (v w : Value) → Like f v w → LikeParts (parts_inside (Some f)) (members v) (members w) 0
-inside_of Empty v w like = tt
-inside_of (Unsigned bits) v w like = tt
-inside_of (Signed bits) v w like = tt
-inside_of (Hexadecimal bits) v w like = tt
-inside_of (Chars n) v w like = tt
-inside_of Address v w like = tt
-inside_of (Fields ps) v w like = like.1
-inside_of (Row n f) v w like = tt
-inside_of (CountedRow by max f) v w like = tt
+inside_of : (f : Shape) (v w : Value) → Like f v w → LikeFields (fields_inside (Some f)) (members v) (members w) 0
+inside_of Nothing v w like = tt
+inside_of (UInt bits) v w like = tt
+inside_of (Int bits) v w like = tt
+inside_of (Hex bits) v w like = tt
+inside_of (Str n) v w like = tt
+inside_of Ether v w like = tt
+inside_of (Struct ps) v w like = like.1
+inside_of (Array n f) v w like = tt
+inside_of (Counted by max f) v w like = tt
 
-inside_found : (ps : Parts) (name : List ℕ) (ms ks : List (ℕ × Value)) (i : ℕ) → LikeParts ps ms ks i
-    → LikeParts (parts_inside (form_named ps name)) (members (find_if (shifted i (field_number ps name)) ms)) (members (find_if (shifted i (field_number ps name)) ks)) 0
-inside_found no_parts name ms ks i like = tt
-inside_found (part n f ps) name ms ks i like =
+inside_found : (ps : Fields) (name : List ℕ) (ms ks : List (ℕ × Value)) (i : ℕ) → LikeFields ps ms ks i
+    → LikeFields (fields_inside (shape_named ps name)) (members (find_if (shifted i (field_number ps name)) ms)) (members (find_if (shifted i (field_number ps name)) ks)) 0
+inside_found no_fields name ms ks i like = tt
+inside_found (field n f ps) name ms ks i like =
     elim (bool_cases (bytes_eq n name)) [
       | inl hit ↦ let here : 0 + i ≡ i = omega arith in rw (hit, here) (inside_of f (find i ms) (find i ks) like.0)
       | inr miss ↦ rw (miss, shifted_more i (field_number ps name)) (inside_found ps name ms ks (i + 1) like.1)
     ]
 
-number_named : (ps : Parts) (name : List ℕ) (ms ks : List (ℕ × Value)) → LikeParts ps ms ks 0 → number (find_named ps name ms) ≡ number (find_named ps name ks)
+number_named : (ps : Fields) (name : List ℕ) (ms ks : List (ℕ × Value)) → LikeFields ps ms ks 0 → number (find_named ps name ms) ≡ number (find_named ps name ks)
 number_named ps name ms ks like = rw (shifted_none (field_number ps name)) at (number_found ps name ms ks 0 like)
 
-pub count_like : (ps : Parts) (ms ks : List (ℕ × Value)) → LikeParts ps ms ks 0 → (by : Counter) → count_in ps ms by ≡ count_in ps ks by
-count_like ps ms ks like (by_own name) = number_named ps name ms ks like
-count_like ps ms ks like (by_inner name inner) =
-    number_named (parts_inside (form_named ps name)) inner (members (find_named ps name ms)) (members (find_named ps name ks)) (rw (shifted_none (field_number ps name)) at (inside_found ps name ms ks 0 like))
+pub count_like : (ps : Fields) (ms ks : List (ℕ × Value)) → LikeFields ps ms ks 0 → (by : CountField) → count_in ps ms by ≡ count_in ps ks by
+count_like ps ms ks like (Own name) = number_named ps name ms ks like
+count_like ps ms ks like (Inside name inner) =
+    number_named (fields_inside (shape_named ps name)) inner (members (find_named ps name ms)) (members (find_named ps name ks)) (rw (shifted_none (field_number ps name)) at (inside_found ps name ms ks 0 like))
 
 -- ---- bytes
 
-rows_like : (p q : Value → ℕ → List ℕ) (ms ks : List (ℕ × Value)) (k i at : ℕ) → ((j at : ℕ) → p (find j ms) at ≡ q (find j ks) at) → row_bytes p ms i k at ≡ row_bytes q ks i k at
-unfolding row_bytes
-rows_like p q ms ks zero i at each = refl
-rows_like p q ms ks (suc k) i at each = rw (each i at) (ap (λ (x : List ℕ). q (find i ks) at ++ x) (rows_like p q ms ks k (i + 1) (at + length (q (find i ks) at)) each))
+arrays_like : (p q : Value → ℕ → List ℕ) (ms ks : List (ℕ × Value)) (k i at : ℕ) → ((j at : ℕ) → p (find j ms) at ≡ q (find j ks) at) → array_bytes p ms i k at ≡ array_bytes q ks i k at
+unfolding array_bytes
+arrays_like p q ms ks zero i at each = refl
+arrays_like p q ms ks (suc k) i at each = rw (each i at) (ap (λ (x : List ℕ). q (find i ks) at ++ x) (arrays_like p q ms ks k (i + 1) (at + length (q (find i ks) at)) each))
 
 mutual
-  unfolding layout parts_bytes
+  unfolding layout fields_bytes
 
-  pub layout_like : (f : Form) (c d : Counter → ℕ) (v w : Value) (at : ℕ) → ((by : Counter) → c by ≡ d by) → Like f v w → layout f c v at ≡ layout f d w at
-  layout_like Empty c d v w at same like = refl
-  layout_like (Unsigned bits) c d v w at same like = rw like refl
-  layout_like (Signed bits) c d v w at same like = rw like refl
-  layout_like (Hexadecimal bits) c d v w at same like = rw like refl
-  layout_like (Chars n) c d v w at same like = rw like.1 refl
-  layout_like Address c d v w at same like = like.1
-  layout_like (Fields ps) c d v w at same like =
-      ap (closed ps) (parts_like ps (count_in ps (members v)) (count_in ps (members w)) (members v) (members w) 0 0 (count_like ps (members v) (members w) like.1) like.1)
-  layout_like (Row n f) c d v w at same like = rows_like (layout f c) (layout f d) (members v) (members w) n 0 at (λ j at. layout_like f c d (find j (members v)) (find j (members w)) at same (like.1 j))
-  layout_like (CountedRow by max f) c d v w at same like =
-      rw (same by) (rows_like (layout f c) (layout f d) (members v) (members w) (d by) 0 at (λ j at. layout_like f c d (find j (members v)) (find j (members w)) at same (like.1 j)))
+  pub layout_like : (f : Shape) (c d : CountField → ℕ) (v w : Value) (at : ℕ) → ((by : CountField) → c by ≡ d by) → Like f v w → layout f c v at ≡ layout f d w at
+  layout_like Nothing c d v w at same like = refl
+  layout_like (UInt bits) c d v w at same like = rw like refl
+  layout_like (Int bits) c d v w at same like = rw like refl
+  layout_like (Hex bits) c d v w at same like = rw like refl
+  layout_like (Str n) c d v w at same like = rw like.1 refl
+  layout_like Ether c d v w at same like = like.1
+  layout_like (Struct ps) c d v w at same like =
+      ap (pad_end ps) (fields_like ps (count_in ps (members v)) (count_in ps (members w)) (members v) (members w) 0 0 (count_like ps (members v) (members w) like.1) like.1)
+  layout_like (Array n f) c d v w at same like = arrays_like (layout f c) (layout f d) (members v) (members w) n 0 at (λ j at. layout_like f c d (find j (members v)) (find j (members w)) at same (like.1 j))
+  layout_like (Counted by max f) c d v w at same like =
+      rw (same by) (arrays_like (layout f c) (layout f d) (members v) (members w) (d by) 0 at (λ j at. layout_like f c d (find j (members v)) (find j (members w)) at same (like.1 j)))
 
-  parts_like : (ps : Parts) (c d : Counter → ℕ) (ms ks : List (ℕ × Value)) (i at : ℕ) → ((by : Counter) → c by ≡ d by) → LikeParts ps ms ks i → parts_bytes ps c ms i at ≡ parts_bytes ps d ks i at
-  parts_like no_parts c d ms ks i at same like = refl
-  parts_like (part name f ps) c d ms ks i at same like =
-      rw (layout_like f c d (find i ms) (find i ks) at same like.0) (ap (λ (x : List ℕ). layout f d (find i ks) at ++ x) (parts_like ps c d ms ks (i + 1) (at + length (layout f d (find i ks) at)) same like.1))
+  fields_like : (ps : Fields) (c d : CountField → ℕ) (ms ks : List (ℕ × Value)) (i at : ℕ) → ((by : CountField) → c by ≡ d by) → LikeFields ps ms ks i → fields_bytes ps c ms i at ≡ fields_bytes ps d ks i at
+  fields_like no_fields c d ms ks i at same like = refl
+  fields_like (field name f ps) c d ms ks i at same like =
+      rw (layout_like f c d (find i ms) (find i ks) at same like.0) (ap (λ (x : List ℕ). layout f d (find i ks) at ++ x) (fields_like ps c d ms ks (i + 1) (at + length (layout f d (find i ks) at)) same like.1))

@@ -1,11 +1,12 @@
 -- Words and their numbers, a step at a time.
-use Rattle.std.proofs.Common.{◌≡◌, ℕ, ◌+◌, ◌*◌, ◌^◌, ◌<◌, ◌≤◌, Bool, true, false, cond, List, [], ◌∷◌, length, get_or, take, drop, min, Option, Some, None, option_map, Ok, refl, sym, ap, ◌∙◌, arith, inl, inr}
+use Rattle.std.proofs.Common.{◌≡◌, ℕ, ◌+◌, ◌*◌, ◌^◌, ◌<◌, ◌≤◌, Bool, true, false, cond, List, [], ◌∷◌, length, get_or, take, drop, min, Option}
+use Rattle.std.proofs.Common.{Some, None, option_map, Ok, refl, sym, ap, ◌∙◌, arith, inl, inr}
 use Rattle.std.specs.Char.{digit_value}
 use Rattle.std.proofs.Math.Nat.{mul-le-mul_right}
 use Rattle.std.proofs.lemmas.Bool.{cases_lt, lt-ltb, le-ltb}
 use Rattle.std.proofs.lemmas.List.{at_drop_more}
-use Rattle.ng_shape.specs.Shapes.{is_word_byte}
-use Rattle.ng_shape.specs.Values.{Value, Num}
+use Rattle.ng_shape.specs.Sound.{is_word_byte}
+use Rattle.ng_shape.specs.Values.{Value, Number}
 use Rattle.ng_parse.specs.Tokens.{word, after_word, all_digits, groups_in}
 use Rattle.ng_parse.specs.Reading.{unsigned_below, number_at, index_at}
 
@@ -28,7 +29,7 @@ capped_more v r d h =
     ]
 
 -- a number below the most is what it was before it was cut at 2^64
-pub sized : (most : ℕ) (text : List ℕ) (o : Option ℕ) (n : ℕ) → most ≤ 2 ^ 64 → Some n ≡ option_map (λ m. min m (2 ^ 64)) o → n < most → unsigned_below most text o ≡ Ok (Num (length text) n, after_word text)
+pub sized : (most : ℕ) (text : List ℕ) (o : Option ℕ) (n : ℕ) → most ≤ 2 ^ 64 → Some n ≡ option_map (λ m. min m (2 ^ 64)) o → n < most → unsigned_below most text o ≡ Ok (Number (length text) n, after_word text)
 sized most text None n le e lt = absurd cc
 sized most text (Some m) n le e lt =
     let capped : n ≡ min m (2 ^ 64) = cc in

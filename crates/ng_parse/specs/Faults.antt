@@ -2,11 +2,11 @@
 use Rattle.std.specs.Prelude.{◌≡◌, ℕ, ◌-◌, List, length, Option, Some, None, Result, Ok, Err, nat_lt, ◌==◌, ◌&&◌, if◌then◌else◌}
 use Rattle.ng_parse.specs.declared.fault.TextFault.{TextFault}
 use Rattle.ng_parse.specs.declared.fault.TextFault.TheVariants as faults
-use Rattle.ng_parse.specs.declared.stop.Why.{Why}
-use Rattle.ng_parse.specs.declared.stop.Why.TheVariants.{Unexpected, UnknownField, Twice, Range, TooMany}
-use Rattle.ng_parse.specs.declared.stop.Fault.{Fault}
-use Rattle.ng_parse.specs.declared.stop.Stop.{Stop}
-use Rattle.ng_parse.specs.declared.stop.Stop.TheVariants.{At, NoMemory}
+use Rattle.ng_parse.specs.declared.fault.Why.{Why}
+use Rattle.ng_parse.specs.declared.fault.Why.TheVariants.{Unexpected, UnknownField, Twice, Range, TooMany}
+use Rattle.ng_parse.specs.declared.fault.Fault.{Fault}
+use Rattle.ng_base.specs.declared.memory.Stop.{Stop}
+use Rattle.ng_base.specs.declared.memory.Stop.TheVariants.{Fault as At, NoMemory}
 
 -- a fault where this rest of a text begins
 abbrev pub fault_at : Why → List ℕ → Fault
@@ -35,17 +35,12 @@ text_fault Range place = faults.Range place
 text_fault TooMany place = faults.TooMany place
 
 -- a fault in a text of so many bytes
-abbrev pub placed : ℕ → Fault → TextFault
-placed n fault = text_fault fault.why (n - fault.left)
+abbrev pub place_fault : ℕ → Fault → TextFault
+place_fault n fault = text_fault fault.why (n - fault.left)
 
 abbrev pub with_place : {A : Type 0} → ℕ → Result A Fault → Result A TextFault
 with_place n (Ok x) = Ok x
-with_place n (Err fault) = Err (placed n fault)
-
-infixl 10 ◌>>=◌
-abbrev pub ◌>>=◌ : {A B E : Type 0} → Result A E → (A → Result B E) → Result B E
-(Ok x) >>= f = f x
-(Err e) >>= f = Err e
+with_place n (Err fault) = Err (place_fault n fault)
 
 -- where a text's fault is, counted from 0
 abbrev pub place_of : TextFault → Option ℕ
@@ -57,11 +52,11 @@ place_of (faults.TooMany place) = Some place
 place_of faults.NoMemory = None
 
 -- what a function returned, seen by view, is what a definition gives, unless memory ran out
-abbrev pub StopsAt : {A : Type 0} → Stop → Result A Fault → Type 0
+abbrev pub StopsAt : {A : Type 0} → Stop Fault → Result A Fault → Type 0
 StopsAt (At fault) read = read ≡ Err fault
 StopsAt NoMemory read = Unit {0}
 
-abbrev pub Follows : {X A : Type 0} → (X → A) → Result X Stop → Result A Fault → Type 0
+abbrev pub Follows : {X A : Type 0} → (X → A) → Result X (Stop Fault) → Result A Fault → Type 0
 Follows view (Ok x) read = read ≡ Ok (view x)
 Follows view (Err stop) read = StopsAt stop read
 

@@ -1,3 +1,4 @@
+pub mod Ascii
 pub mod Tokens
 pub mod Faults
 pub mod Counts

@@ -1,16 +1,18 @@
 -- Blanks, words, and the numbers and addresses that words say.
-use Rattle.std.specs.Prelude.{ℕ, zero, suc, ◌+◌, ◌*◌, Bool, true, false, ◌||◌, ◌&&◌, List, [], ◌∷◌, length, drop, Option, Some, None, option_map, nat_lt, nat_le, ◌==◌, if◌then◌else◌}
+use Rattle.std.specs.Prelude.{ℕ, zero, suc, ◌+◌, ◌*◌, Bool, true, false, ◌||◌, ◌&&◌, List, [], ◌∷◌, length, drop, Option, Some, None, option_map}
+use Rattle.std.specs.Prelude.{nat_lt, nat_le, ◌==◌, if◌then◌else◌}
 use Rattle.std.specs.Char.{digit_value}
 use Rattle.std.specs.Str.Parse.{digits_value}
-use Rattle.ng_shape.specs.Shapes.{is_word_byte}
+use Rattle.ng_shape.specs.Sound.{is_word_byte}
+use Rattle.ng_parse.specs.Ascii.{tab, space, minus, digit_zero, colon, letter_x}
 
 abbrev pub is_blank : ℕ → Bool
-is_blank b = (b == 32) || (b == 9)
+is_blank b = (b == space) || (b == tab)
 
 -- without the blanks at the front
-abbrev pub skip : List ℕ → List ℕ
-skip [] = []
-skip (b ∷ bs) = if is_blank b then skip bs else b ∷ bs
+abbrev pub skip_blanks : List ℕ → List ℕ
+skip_blanks [] = []
+skip_blanks (b ∷ bs) = if is_blank b then skip_blanks bs else b ∷ bs
 
 -- the longest run of a word's bytes at the front, and what follows it
 abbrev pub word : List ℕ → List ℕ
@@ -37,17 +39,17 @@ digits_in radix ds = if nat_lt 0 (length ds) && all_digits radix ds then Some (d
 -- behind a zero: nothing, x and 1 to 16 hexadecimal digits, or octal digits
 abbrev pub after_zero : List ℕ → Option ℕ
 after_zero [] = Some 0
-after_zero (x ∷ ds) = if x == 120 then (if nat_le (length ds) 16 then digits_in 16 ds else None) else digits_in 8 (x ∷ ds)
+after_zero (x ∷ ds) = if x == letter_x then (if nat_le (length ds) 16 then digits_in 16 ds else None) else digits_in 8 (x ∷ ds)
 
 -- the number that a word says
 abbrev pub number_in : List ℕ → Option ℕ
 number_in [] = None
-number_in (c ∷ cs) = if c == 48 then after_zero cs else digits_in 10 (c ∷ cs)
+number_in (c ∷ cs) = if c == digit_zero then after_zero cs else digits_in 10 (c ∷ cs)
 
 -- whether a word says a negative number, and the number without its sign
 abbrev pub signed_in : List ℕ → Option (Bool × ℕ)
 signed_in [] = None
-signed_in (c ∷ cs) = if c == 45 then option_map (λ n. (true, n)) (number_in cs) else option_map (λ n. (false, n)) (number_in (c ∷ cs))
+signed_in (c ∷ cs) = if c == minus then option_map (λ n. (true, n)) (number_in cs) else option_map (λ n. (false, n)) (number_in (c ∷ cs))
 
 -- ---- addresses: six groups of one or two hexadecimal digits, joined by colons
 
@@ -67,7 +69,7 @@ with_first (Some x) more = option_map (λ bytes. x.0 ∷ bytes) (more x.1)
 -- the same behind a colon
 abbrev pub next_group_in : List ℕ → Option (ℕ × List ℕ)
 next_group_in [] = None
-next_group_in (c ∷ cs) = if c == 58 then group_in cs else None
+next_group_in (c ∷ cs) = if c == colon then group_in cs else None
 
 -- so many groups, each behind a colon, and nothing else
 abbrev pub groups_in : ℕ → List ℕ → Option (List ℕ)

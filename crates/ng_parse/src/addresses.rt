@@ -5,8 +5,9 @@ ghost use Rattle.ng_parse.specs.Faults.{Follows};
 ghost use Rattle.ng_parse.specs.Reading.{address_at};
 ghost use Rattle.ng_parse.specs.Tokens.{address_in, group_in, next_group_in};
 
-use crate::stop::{Stop, Why, fault_at};
+use crate::fault::{Fault, Why, fault_at};
 use crate::tokens::split_word;
+use ng_base::Stop;
 use ng_shape::Tree;
 use std::alloc::Global;
 
@@ -54,12 +55,12 @@ fn address_of(word: &[u8]) -> Option<[u8; 6]>
 }
 
 /// An Ethernet address.
-pub fn address_at(alloc: Global, text: &[u8]) -> Result<(Tree, &[u8]), Stop>
+pub fn address_at(alloc: Global, text: &[u8]) -> Result<(Tree, &[u8]), Stop<Fault>>
     ensures { Follows (λ x. (value_of x.0, x.1.now)) result (address_at text.now) }
 {
     let (word, rest) = split_word(text);
     let Some(bytes) = address_of(word) else {
-        return Err(Stop::At(fault_at(Why::Unexpected, text)));
+        return Err(Stop::Fault(fault_at(Why::Unexpected, text)));
     };
     Ok((Tree::Text(Vec::from_slice(alloc, &bytes)?), rest))
 }

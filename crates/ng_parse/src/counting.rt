@@ -1,27 +1,27 @@
 // Fields that count the elements of arrays.
 ghost use Rattle.std.specs.Prelude.{◌≡◌, ◌≤◌, ◌^◌, [], IfOk, Option, option_map, Some, None};
-ghost use Rattle.ng_shape.specs.Forms.{counter_of, form_of, form_named, parts_inside, parts_of};
-ghost use Rattle.ng_shape.specs.Values.{Several, Num, find, is_nil, members, members_of, number, pack, value_of, value_seen};
-ghost use Rattle.ng_parse.specs.Counts.{count_fault, count_value, fill_count, fill_counts, fill_field, first_fault, left_of, put_count, put_field, reach, without, wrong_count, wrong_count_in};
+ghost use Rattle.ng_shape.specs.Shape.{count_field_of, shape_of, shape_named, fields_inside, fields_of};
+ghost use Rattle.ng_shape.specs.Values.{Group, Number, find, is_absent, members, members_of, number, pack, value_of, value_seen};
+ghost use Rattle.ng_parse.specs.Counts.{count_fault, count_value, fill_count, fill_counts, fill_field, first_fault, left_of, put_count, put_field};
+ghost use Rattle.ng_parse.specs.Counts.{reach, without, wrong_count, wrong_count_in};
 
-use crate::stop::{Fault, Why};
+use crate::fault::{Fault, Why};
 use ng_base::NoMemory;
 use ng_shape::{
     CountField, Field, Member, Shape, Tree, field_number, fields_inside, find_field, find_member,
-    members_seen, number_seen,
 };
 use std::alloc::Global;
 
 /// The value of the field that counts, in a structure with these members.
 fn count_tree<'a>(fields: &[Field], members: &'a [Member], by: &CountField) -> Option<&'a Tree>
-    ensures { value_seen result ≡ count_value (parts_of fields.now) (members_of members.now) (counter_of by.now) }
+    ensures { value_seen result ≡ count_value (fields_of fields.now) (members_of members.now) (count_field_of by.now) }
 {
     match by {
         CountField::Own(name) => find_field(fields, members, name.as_bytes()),
         CountField::Inside(name, inner) => {
             let structure = find_field(fields, members, name.as_bytes());
             let inside = fields_inside(fields, name.as_bytes());
-            find_field(inside, members_seen(structure), inner.as_bytes())
+            find_field(inside, inner_members(structure), inner.as_bytes())
         }
     }
 }
@@ -38,11 +38,11 @@ fn reach(members: &[Member]) -> u128
     reach
 }
 
-/// Whether nothing was given.
-pub fn is_absent(tree: Option<&Tree>) -> bool
-    ensures { result ≡ is_nil (value_seen tree.entry) }
+/// The members of what may have been given; none where nothing was, or no group.
+pub fn inner_members(tree: Option<&Tree>) -> &[Member]
+    ensures { members_of result.now ≡ members (value_seen tree.entry) }
 {
-    matches!(tree, None | Some(Tree::Absent))
+    tree.map(Tree::members).unwrap_or(&[])
 }
 
 /// The number of bytes of the text from a value's front on.
@@ -103,7 +103,8 @@ fn put_inside(
     number: Option<u64>,
     count: u64,
 ) -> Result<Tree, NoMemory>
-    ensures { IfOk result (λ tree. value_of tree ≡ Several (left_of (value_of structure)) (pack (put_field number (Num 0 count) (members (value_of structure))))) }
+    ensures { IfOk result (λ tree. value_of tree ≡
+        Group (left_of (value_of structure)) (pack (put_field number (Number 0 count) (members (value_of structure))))) }
 {
     let left = left_of(Some(&structure));
     let count = Tree::Number {
@@ -122,7 +123,7 @@ fn put_count(
     by: &CountField,
     count: u64,
 ) -> Result<Vec<Member>, NoMemory>
-    ensures { IfOk result (λ ms. members_of ms.items ≡ put_count (parts_of fields.now) (counter_of by.now) count (members_of members.items)) }
+    ensures { IfOk result (λ ms. members_of ms.items ≡ put_count (fields_of fields.now) (count_field_of by.now) count (members_of members.items)) }
 {
     match by {
         CountField::Own(name) => {
@@ -156,9 +157,12 @@ fn fill_count(
     count: u128,
 ) -> Result<Vec<Member>, NoMemory>
     requires { count ≤ 2 ^ 64 }
-    ensures { IfOk result (λ ms. members_of ms.items ≡ fill_count (parts_of fields.now) (counter_of by.now) max count (members_of members.items)) }
+    ensures { IfOk result (λ ms. members_of ms.items ≡ fill_count (fields_of fields.now) (count_field_of by.now) max count (members_of members.items)) }
 {
-    if is_absent(count_tree(fields, &members, by)) && 0 < count && count <= u128::from(max) {
+    if count_tree(fields, &members, by).map_or(true, Tree::is_absent)
+        && 0 < count
+        && count <= u128::from(max)
+    {
         return put_count(alloc, fields, members, by, count as u64);
     }
     Ok(members)
@@ -172,11 +176,11 @@ fn fill_field(
     shape: &Shape,
     number: u64,
 ) -> Result<Vec<Member>, NoMemory>
-    ensures { IfOk result (λ ms. members_of ms.items ≡ fill_field (parts_of fields.now) (form_of shape.now) number (members_of members.items)) }
+    ensures { IfOk result (λ ms. members_of ms.items ≡ fill_field (fields_of fields.now) (shape_of shape.now) number (members_of members.items)) }
 {
     match shape {
         Shape::Counted { by, max, .. } => {
-            let count = reach(members_seen(find_member(&members, number)));
+            let count = reach(inner_members(find_member(&members, number)));
             fill_count(alloc, fields, members, by, *max, count)
         }
         _ => Ok(members),
@@ -189,7 +193,7 @@ pub fn fill_counts(
     fields: &[Field],
     members: Vec<Member>,
 ) -> Result<Vec<Member>, NoMemory>
-    ensures { IfOk result (λ ms. members_of ms.items ≡ fill_counts (parts_of fields.now) (parts_of fields.now) 0 (members_of members.items)) }
+    ensures { IfOk result (λ ms. members_of ms.items ≡ fill_counts (fields_of fields.now) (fields_of fields.now) 0 (members_of members.items)) }
 {
     let mut members = members;
     let mut number = 0;
@@ -213,7 +217,7 @@ pub struct Around<'a> {
 fn count_fault(max: u32, count: Option<&Tree>, array: Option<&Tree>) -> Option<Fault>
     ensures { result ≡ count_fault max (value_seen count.entry) (value_seen array.entry) }
 {
-    let number = number_seen(count);
+    let number = count.map_or(0, Tree::number);
     if number > u64::from(max) {
         let left = left_of(count);
         return Some(Fault {
@@ -221,7 +225,7 @@ fn count_fault(max: u32, count: Option<&Tree>, array: Option<&Tree>) -> Option<F
             left,
         });
     }
-    if u128::from(number) < reach(members_seen(array)) {
+    if u128::from(number) < reach(inner_members(array)) {
         let left = left_of(array);
         return Some(Fault {
             why: Why::TooMany,
@@ -235,17 +239,17 @@ fn count_fault(max: u32, count: Option<&Tree>, array: Option<&Tree>) -> Option<F
 #[cycle(count)]
 #[tactic(auto, unfolding(crate::specs::Counts::wrong_count))]
 pub fn wrong_count(around: Around<'_>, shape: &Shape, tree: Option<&Tree>) -> Option<Fault>
-    ensures { let counts = count_value (parts_of around.entry.fields.now) (members_of around.entry.members.now) in
-        result ≡ wrong_count (form_of shape.now) counts (value_seen tree.entry) }
+    ensures { let counts = count_value (fields_of around.entry.fields.now) (members_of around.entry.members.now) in
+        result ≡ wrong_count (shape_of shape.now) counts (value_seen tree.entry) }
 {
     match shape {
-        Shape::Struct(fields) => wrong_count_in(fields, members_seen(tree)),
-        Shape::Array(_, element) => first_fault(around, element, members_seen(tree)),
+        Shape::Struct(fields) => wrong_count_in(fields, inner_members(tree)),
+        Shape::Array(_, element) => first_fault(around, element, inner_members(tree)),
         Shape::Counted { by, max, element } => {
             let count = count_tree(around.fields, around.members, by);
             match count_fault(*max, count, tree) {
                 Some(fault) => Some(fault),
-                None => first_fault(around, element, members_seen(tree)),
+                None => first_fault(around, element, inner_members(tree)),
             }
         }
         _ => None,
@@ -255,8 +259,8 @@ pub fn wrong_count(around: Around<'_>, shape: &Shape, tree: Option<&Tree>) -> Op
 /// The first one in a structure.
 #[cycle(count)]
 fn wrong_count_in(fields: &[Field], members: &[Member]) -> Option<Fault>
-    ensures { let parts = parts_of fields.now in let ms = members_of members.now in
-        result ≡ wrong_count_in parts (count_value parts ms) ms 0 }
+    ensures { let fs = fields_of fields.now in let ms = members_of members.now in
+        result ≡ wrong_count_in fs (count_value fs ms) ms 0 }
 {
     let around = Around { fields, members };
     let mut number = 0;
@@ -273,8 +277,8 @@ fn wrong_count_in(fields: &[Field], members: &[Member]) -> Option<Fault>
 /// The first one among elements.
 #[cycle(count)]
 fn first_fault(around: Around<'_>, element: &Shape, members: &[Member]) -> Option<Fault>
-    ensures { let counts = count_value (parts_of around.entry.fields.now) (members_of around.entry.members.now) in
-        result ≡ first_fault (wrong_count (form_of element.now) counts) (members_of members.now) }
+    ensures { let counts = count_value (fields_of around.entry.fields.now) (members_of around.entry.members.now) in
+        result ≡ first_fault (wrong_count (shape_of element.now) counts) (members_of members.now) }
 {
     for member in members {
         let fault = wrong_count(around, element, Some(&member.tree));

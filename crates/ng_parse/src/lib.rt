@@ -9,7 +9,6 @@ mod integers;
 mod laws;
 mod printing;
 mod reading;
-mod stop;
 mod strings;
 #[cfg(test)]
 mod tests;

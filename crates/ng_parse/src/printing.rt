@@ -2,14 +2,16 @@
 ghost use Rattle.std.specs.Prelude.{◌≡◌, ◌≤◌, ◌++◌, ◌∷◌, [], OnOk};
 ghost use Rattle.std.specs.Fmt.{decimal};
 ghost use Rattle.std.specs.List.{flat_map};
-ghost use Rattle.ng_shape.specs.Forms.{form_of, parts_of};
-ghost use Rattle.ng_shape.specs.Values.{chars, is_nil, members_of, value_of, value_seen};
-ghost use Rattle.ng_parse.specs.Printing.{address_bytes, print, print_address, print_char, print_elements, print_field, print_groups, print_hex, print_index, print_parts, print_row, print_signed, print_string, two_digits};
+ghost use Rattle.ng_shape.specs.Shape.{shape_of, fields_of};
+ghost use Rattle.ng_shape.specs.Values.{chars, is_absent, members_of, value_of, value_seen};
+ghost use Rattle.ng_parse.specs.Ascii.{close_brace, open_brace, space};
+ghost use Rattle.ng_parse.specs.Printing.{address_bytes, print, print_address, print_char, print_elements, print_field, print_groups, print_hex};
+ghost use Rattle.ng_parse.specs.Printing.{print_index, print_fields, print_array, print_signed, print_string, two_digits};
 
-use crate::counting::is_absent;
+use crate::counting::inner_members;
 use crate::integers::limit;
 use ng_base::NoMemory;
-use ng_shape::{Field, Member, Shape, Tree, chars_seen, find_member, members_seen, number_seen};
+use ng_shape::{Field, Member, Shape, Tree, find_member};
 use std::alloc::Global;
 
 fn print_number(alloc: Global, out: &mut Vec<u8>, number: u64) -> Result<(), NoMemory>
@@ -101,7 +103,7 @@ fn print_groups(alloc: Global, out: &mut Vec<u8>, bytes: &[u8]) -> Result<(), No
 fn address_bytes(tree: Option<&Tree>) -> &[u8]
     ensures { result.now ≡ address_bytes (chars (value_seen tree.entry)) }
 {
-    let bytes = chars_seen(tree);
+    let bytes = tree.map(Tree::chars).unwrap_or(&[]);
     if bytes.is_empty() {
         return &[0, 0, 0, 0, 0, 0];
     }
@@ -130,18 +132,18 @@ pub fn print(
     shape: &Shape,
     tree: Option<&Tree>,
 ) -> Result<(), NoMemory>
-    ensures { OnOk result (out.new.items ≡ out.old.items ++ print (form_of shape.now) (value_seen tree.entry)) }
+    ensures { OnOk result (out.new.items ≡ out.old.items ++ print (shape_of shape.now) (value_seen tree.entry)) }
 {
     match shape {
         Shape::Nothing => Ok(()),
-        Shape::UInt(_) => print_number(alloc, out, number_seen(tree)),
-        Shape::Int(bits) => print_signed(alloc, out, *bits, number_seen(tree)),
-        Shape::Hex(_) => print_hex(alloc, out, number_seen(tree)),
-        Shape::Str(_) => print_string(alloc, out, chars_seen(tree)),
+        Shape::UInt(_) => print_number(alloc, out, tree.map_or(0, Tree::number)),
+        Shape::Int(bits) => print_signed(alloc, out, *bits, tree.map_or(0, Tree::number)),
+        Shape::Hex(_) => print_hex(alloc, out, tree.map_or(0, Tree::number)),
+        Shape::Str(_) => print_string(alloc, out, tree.map(Tree::chars).unwrap_or(&[])),
         Shape::Ether => print_address(alloc, out, address_bytes(tree)),
-        Shape::Struct(fields) => print_structure(alloc, out, fields, members_seen(tree)),
-        Shape::Array(_, element) => print_row(alloc, out, element, members_seen(tree)),
-        Shape::Counted { element, .. } => print_row(alloc, out, element, members_seen(tree)),
+        Shape::Struct(fields) => print_structure(alloc, out, fields, inner_members(tree)),
+        Shape::Array(_, element) => print_array(alloc, out, element, inner_members(tree)),
+        Shape::Counted { element, .. } => print_array(alloc, out, element, inner_members(tree)),
     }
 }
 
@@ -153,7 +155,8 @@ fn print_structure(
     fields: &[Field],
     members: &[Member],
 ) -> Result<(), NoMemory>
-    ensures { OnOk result (out.new.items ≡ out.old.items ++ (123 ∷ print_parts (parts_of fields.now) (members_of members.now) 0 ++ 32 ∷ 125 ∷ [])) }
+    ensures { OnOk result (out.new.items ≡ out.old.items ++
+        (open_brace ∷ print_fields (fields_of fields.now) (members_of members.now) 0 ++ space ∷ close_brace ∷ [])) }
 {
     out.push(b'{')?;
     let mut number = 0;
@@ -172,9 +175,9 @@ fn print_field(
     field: &Field,
     tree: Option<&Tree>,
 ) -> Result<(), NoMemory>
-    ensures { OnOk result (out.new.items ≡ out.old.items ++ print_field field.now.name.now (print (form_of field.now.shape)) (value_seen tree.entry)) }
+    ensures { OnOk result (out.new.items ≡ out.old.items ++ print_field field.now.name.now (print (shape_of field.now.shape)) (value_seen tree.entry)) }
 {
-    if is_absent(tree) {
+    if tree.map_or(true, Tree::is_absent) {
         return Ok(());
     }
     out.push(b' ')?;
@@ -185,13 +188,13 @@ fn print_field(
 
 /// Appends an array: the elements that were given.
 #[cycle(print)]
-fn print_row(
+fn print_array(
     alloc: Global,
     out: &mut Vec<u8>,
     element: &Shape,
     members: &[Member],
 ) -> Result<(), NoMemory>
-    ensures { OnOk result (out.new.items ≡ out.old.items ++ print_row (print (form_of element.now)) (members_of members.now)) }
+    ensures { OnOk result (out.new.items ≡ out.old.items ++ print_array (print (shape_of element.now)) (members_of members.now)) }
 {
     out.push(b'[')?;
     let mut next: u128 = 0;

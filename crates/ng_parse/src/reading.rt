@@ -1,17 +1,20 @@
 // Values in a text, from left to right.
 ghost use Rattle.std.specs.Prelude.{◌≡◌, ◌≤◌, ◌<◌, ◌^◌, [], true, false, length, IfOk, IfSome, MatchOption, option_map};
-ghost use Rattle.ng_shape.specs.Forms.{field_number, form_of, parts_of, Fields};
+ghost use Rattle.ng_shape.specs.Shape.{field_number, shape_of, fields_of, Struct};
 ghost use Rattle.ng_shape.specs.Values.{member_of, members_of, value_of};
+ghost use Rattle.ng_parse.specs.Ascii.{close_brace, close_bracket, open_bracket};
 ghost use Rattle.ng_parse.specs.Tokens.{number_in, word};
 ghost use Rattle.ng_parse.specs.Faults.{Follows};
-ghost use Rattle.ng_parse.specs.Reading.{after_index, between, group, numbered, element_at, element_value, field_at, fresh, has, has_index, index_at, member_at, next_number, no_element, number_at, read_all, read_at, read_part, repeated};
+ghost use Rattle.ng_parse.specs.Reading.{after_index, between, group, with_number, element_at, element_value, field_at, fresh, has, has_index};
+ghost use Rattle.ng_parse.specs.Reading.{index_at, member_at, next_number, no_element, number_at, read_all, read_at, read_field, repeat};
 
 use crate::addresses::address_at;
 use crate::counting::fill_counts;
+use crate::fault::{Fault, Why, fault_at, first_of};
 use crate::integers::{signed_at, unsigned_at};
-use crate::stop::{Fault, Stop, Why, fault_at, first_of};
 use crate::strings::string_at;
-use crate::tokens::{behind_mark, number_of, skipped, split_word};
+use crate::tokens::{behind_mark, number_of, skip_blanks, split_word};
+use ng_base::Stop;
 use ng_shape::{Field, Member, Shape, Tree, field_number};
 use std::alloc::Global;
 
@@ -69,14 +72,15 @@ fn index_at(count: u32, members: &[Member], text: &[u8], word: &[u8]) -> Result<
 
 /// The word before the `=` that follows it, and what follows both, if so a text begins.
 fn split_index(text: &[u8]) -> Option<(&[u8], &[u8])>
-    ensures { MatchOption result (has_index text.now ≡ false) (λ x. (has_index text.now ≡ true) × (x.0.now ≡ word text.now) × (x.1.now ≡ after_index text.now)) }
+    ensures { MatchOption result (has_index text.now ≡ false)
+        (λ x. (has_index text.now ≡ true) × (x.0.now ≡ word text.now) × (x.1.now ≡ after_index text.now)) }
 {
     let (word, rest) = split_word(text);
     if word.is_empty() {
         return None;
     }
-    match skipped(rest) {
-        [b'=', behind @ ..] => Some((word, skipped(behind))),
+    match skip_blanks(rest) {
+        [b'=', behind @ ..] => Some((word, skip_blanks(behind))),
         _ => None,
     }
 }
@@ -88,15 +92,19 @@ fn no_element(text: &[u8]) -> Fault
     let (word, rest) = split_word(text);
     match number_of(word) {
         None => fault_at(Why::Unexpected, text),
-        Some(_) => fault_at(Why::Unexpected, skipped(rest)),
+        Some(_) => fault_at(Why::Unexpected, skip_blanks(rest)),
     }
 }
 
 /// A value of that shape at the front.
 #[cycle(read)]
 #[tactic(auto, unfolding(crate::specs::Reading::read_at))]
-fn value_at<'a>(alloc: Global, shape: &Shape, text: &'a [u8]) -> Result<(Tree, &'a [u8]), Stop>
-    ensures { Follows (λ x. (value_of x.0, x.1.now)) result (read_at (form_of shape.now) text.now) }
+fn value_at<'a>(
+    alloc: Global,
+    shape: &Shape,
+    text: &'a [u8],
+) -> Result<(Tree, &'a [u8]), Stop<Fault>>
+    ensures { Follows (λ x. (value_of x.0, x.1.now)) result (read_at (shape_of shape.now) text.now) }
 {
     match shape {
         Shape::Nothing => Ok((Tree::Absent, text)),
@@ -106,8 +114,8 @@ fn value_at<'a>(alloc: Global, shape: &Shape, text: &'a [u8]) -> Result<(Tree, &
         Shape::Str(n) => string_at(alloc, *n, text),
         Shape::Ether => address_at(alloc, text),
         Shape::Struct(fields) => structure_at(alloc, fields, text),
-        Shape::Array(count, element) => row_at(alloc, *count, element, text),
-        Shape::Counted { max, element, .. } => row_at(alloc, *max, element, text),
+        Shape::Array(count, element) => array_at(alloc, *count, element, text),
+        Shape::Counted { max, element, .. } => array_at(alloc, *max, element, text),
     }
 }
 
@@ -118,8 +126,8 @@ fn structure_at<'a>(
     alloc: Global,
     fields: &[Field],
     text: &'a [u8],
-) -> Result<(Tree, &'a [u8]), Stop>
-    ensures { Follows (λ x. (value_of x.0, x.1.now)) result (read_at (Fields (parts_of fields.now)) text.now) }
+) -> Result<(Tree, &'a [u8]), Stop<Fault>>
+    ensures { Follows (λ x. (value_of x.0, x.1.now)) result (read_at (Struct (fields_of fields.now)) text.now) }
 {
     let inside = behind_mark(b'{', text)?;
     let (given, rest) = fields_at(alloc, fields, inside)?;
@@ -134,10 +142,10 @@ fn fields_at<'a>(
     alloc: Global,
     fields: &[Field],
     text: &'a [u8],
-) -> Result<(Vec<Member>, &'a [u8]), Stop>
-    ensures { let parts = parts_of fields.now in
+) -> Result<(Vec<Member>, &'a [u8]), Stop<Fault>>
+    ensures { let fs = fields_of fields.now in
         Follows (λ x. (members_of x.0.items, x.1.now)) result
-        (repeated (member_at 125 (field_at (field_number parts) (read_part parts))) (length text.now) [] text.now) }
+        (repeat (member_at close_brace (field_at (field_number fs) (read_field fs))) (length text.now) [] text.now) }
 {
     let mut members = Vec::new(alloc);
     let mut rest = text;
@@ -149,7 +157,7 @@ fn fields_at<'a>(
         };
         members.push(field)?;
     }
-    Err(Stop::At(fault_at(Why::Unexpected, rest)))
+    Err(Stop::Fault(fault_at(Why::Unexpected, rest)))
 }
 
 #[cycle(read)]
@@ -158,12 +166,12 @@ fn field_or_end<'a>(
     fields: &[Field],
     members: &[Member],
     text: &'a [u8],
-) -> Result<(Option<Member>, &'a [u8]), Stop>
-    ensures { let parts = parts_of fields.now in
+) -> Result<(Option<Member>, &'a [u8]), Stop<Fault>>
+    ensures { let fs = fields_of fields.now in
         Follows (λ x. (option_map member_of x.0, x.1.now)) result
-        (member_at 125 (field_at (field_number parts) (read_part parts)) (members_of members.now) text.now) }
+        (member_at close_brace (field_at (field_number fs) (read_field fs)) (members_of members.now) text.now) }
 {
-    let text = skipped(text);
+    let text = skip_blanks(text);
     if let [b'}', rest @ ..] = text {
         return Ok((None, rest));
     }
@@ -179,37 +187,37 @@ fn field_at<'a>(
     fields: &[Field],
     members: &[Member],
     text: &'a [u8],
-) -> Result<(Member, &'a [u8]), Stop>
-    ensures { let parts = parts_of fields.now in
+) -> Result<(Member, &'a [u8]), Stop<Fault>>
+    ensures { let fs = fields_of fields.now in
         Follows (λ x. (member_of x.0, x.1.now)) result
-        (field_at (field_number parts) (read_part parts) (members_of members.now) text.now) }
+        (field_at (field_number fs) (read_field fs) (members_of members.now) text.now) }
 {
     let (name, rest) = split_word(text);
     if name.is_empty() {
-        return Err(Stop::At(fault_at(Why::Unexpected, text)));
+        return Err(Stop::Fault(fault_at(Why::Unexpected, text)));
     }
     let Some(number) = field_number(fields, name) else {
-        return Err(Stop::At(fault_at(Why::UnknownField, text)));
+        return Err(Stop::Fault(fault_at(Why::UnknownField, text)));
     };
     if has(number, members) {
-        return Err(Stop::At(fault_at(Why::Twice, text)));
+        return Err(Stop::Fault(fault_at(Why::Twice, text)));
     }
-    let behind = behind_mark(b'=', skipped(rest))?;
-    let (tree, rest) = value_at(alloc, &fields[number as usize].shape, skipped(behind))?;
+    let behind = behind_mark(b'=', skip_blanks(rest))?;
+    let (tree, rest) = value_at(alloc, &fields[number as usize].shape, skip_blanks(behind))?;
     Ok((Member { number, tree }, rest))
 }
 
 /// An array of at most so many elements.
 #[cycle(read)]
 #[tactic(auto, unfolding(crate::specs::Reading::between))]
-fn row_at<'a>(
+fn array_at<'a>(
     alloc: Global,
     count: u32,
     element: &Shape,
     text: &'a [u8],
-) -> Result<(Tree, &'a [u8]), Stop>
+) -> Result<(Tree, &'a [u8]), Stop<Fault>>
     ensures { Follows (λ x. (value_of x.0, x.1.now)) result
-        (group text.now (λ ms. ms) (between 91 93 (element_at count (read_at (form_of element.now))) text.now)) }
+        (group text.now (λ ms. ms) (between open_bracket close_bracket (element_at count (read_at (shape_of element.now))) text.now)) }
 {
     let inside = behind_mark(b'[', text)?;
     let (members, rest) = elements_at(alloc, count, element, inside)?;
@@ -224,9 +232,9 @@ fn elements_at<'a>(
     count: u32,
     element: &Shape,
     text: &'a [u8],
-) -> Result<(Vec<Member>, &'a [u8]), Stop>
+) -> Result<(Vec<Member>, &'a [u8]), Stop<Fault>>
     ensures { Follows (λ x. (members_of x.0.items, x.1.now)) result
-        (repeated (member_at 93 (element_at count (read_at (form_of element.now)))) (length text.now) [] text.now) }
+        (repeat (member_at close_bracket (element_at count (read_at (shape_of element.now)))) (length text.now) [] text.now) }
 {
     let mut members = Vec::new(alloc);
     let mut rest = text;
@@ -238,7 +246,7 @@ fn elements_at<'a>(
         };
         members.push(item)?;
     }
-    Err(Stop::At(fault_at(Why::Unexpected, rest)))
+    Err(Stop::Fault(fault_at(Why::Unexpected, rest)))
 }
 
 #[cycle(read)]
@@ -248,11 +256,11 @@ fn element_or_end<'a>(
     element: &Shape,
     members: &[Member],
     text: &'a [u8],
-) -> Result<(Option<Member>, &'a [u8]), Stop>
+) -> Result<(Option<Member>, &'a [u8]), Stop<Fault>>
     ensures { Follows (λ x. (option_map member_of x.0, x.1.now)) result
-        (member_at 93 (element_at count (read_at (form_of element.now))) (members_of members.now) text.now) }
+        (member_at close_bracket (element_at count (read_at (shape_of element.now))) (members_of members.now) text.now) }
 {
-    let text = skipped(text);
+    let text = skip_blanks(text);
     if let [b']', rest @ ..] = text {
         return Ok((None, rest));
     }
@@ -269,9 +277,9 @@ fn element_at<'a>(
     element: &Shape,
     members: &[Member],
     text: &'a [u8],
-) -> Result<(Member, &'a [u8]), Stop>
+) -> Result<(Member, &'a [u8]), Stop<Fault>>
     ensures { Follows (λ x. (member_of x.0, x.1.now)) result
-        (element_at count (read_at (form_of element.now)) (members_of members.now) text.now) }
+        (element_at count (read_at (shape_of element.now)) (members_of members.now) text.now) }
 {
     let Some((word, behind)) = split_index(text) else {
         return next_element(alloc, count, element, members, text);
@@ -289,10 +297,10 @@ fn next_element<'a>(
     element: &Shape,
     members: &[Member],
     text: &'a [u8],
-) -> Result<(Member, &'a [u8]), Stop>
+) -> Result<(Member, &'a [u8]), Stop<Fault>>
     ensures { let given = members_of members.now in
         Follows (λ x. (member_of x.0, x.1.now)) result
-        (numbered (number_at count given text.now (next_number given)) (element_value text.now (read_at (form_of element.now) text.now))) }
+        (with_number (number_at count given text.now (next_number given)) (element_value text.now (read_at (shape_of element.now) text.now))) }
 {
     let value = element_value(alloc, element, text);
     match number_at(count, members, text, next_number(members)) {
@@ -301,8 +309,8 @@ fn next_element<'a>(
             Ok((Member { number, tree }, rest))
         }
         Err(fault) => match value {
-            Ok(_) => Err(Stop::At(fault)),
-            Err(Stop::At(later)) => Err(Stop::At(first_of(fault, later))),
+            Ok(_) => Err(Stop::Fault(fault)),
+            Err(Stop::Fault(later)) => Err(Stop::Fault(first_of(fault, later))),
             Err(Stop::NoMemory) => Err(Stop::NoMemory),
         },
     }
@@ -314,21 +322,21 @@ fn element_value<'a>(
     alloc: Global,
     element: &Shape,
     text: &'a [u8],
-) -> Result<(Tree, &'a [u8]), Stop>
-    ensures { Follows (λ x. (value_of x.0, x.1.now)) result (element_value text.now (read_at (form_of element.now) text.now)) }
+) -> Result<(Tree, &'a [u8]), Stop<Fault>>
+    ensures { Follows (λ x. (value_of x.0, x.1.now)) result (element_value text.now (read_at (shape_of element.now) text.now)) }
 {
     match value_at(alloc, element, text) {
         Ok((tree, rest)) => {
             if rest.len() == text.len() {
-                return Err(Stop::At(no_element(text)));
+                return Err(Stop::Fault(no_element(text)));
             }
             Ok((tree, rest))
         }
-        Err(Stop::At(fault)) => {
+        Err(Stop::Fault(fault)) => {
             if fault.why == Why::Unexpected && fault.left == text.len() {
-                return Err(Stop::At(no_element(text)));
+                return Err(Stop::Fault(no_element(text)));
             }
-            Err(Stop::At(fault))
+            Err(Stop::Fault(fault))
         }
         Err(Stop::NoMemory) => Err(Stop::NoMemory),
     }
@@ -336,13 +344,13 @@ fn element_value<'a>(
 
 /// The value that all of a text says, before its counts are looked at.
 #[tactic(auto, unfolding(crate::specs::Reading::read_all))]
-pub fn read_all(alloc: Global, shape: &Shape, text: &[u8]) -> Result<Tree, Stop>
-    ensures { Follows (λ tree. value_of tree) result (read_all (form_of shape.now) text.now) }
+pub fn read_all(alloc: Global, shape: &Shape, text: &[u8]) -> Result<Tree, Stop<Fault>>
+    ensures { Follows (λ tree. value_of tree) result (read_all (shape_of shape.now) text.now) }
 {
-    let (tree, rest) = value_at(alloc, shape, skipped(text))?;
-    let rest = skipped(rest);
+    let (tree, rest) = value_at(alloc, shape, skip_blanks(text))?;
+    let rest = skip_blanks(rest);
     if !rest.is_empty() {
-        return Err(Stop::At(fault_at(Why::Unexpected, rest)));
+        return Err(Stop::Fault(fault_at(Why::Unexpected, rest)));
     }
     Ok(tree)
 }

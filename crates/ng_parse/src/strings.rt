@@ -2,26 +2,27 @@
 ghost use Rattle.std.specs.Prelude.{◌≡◌, [], length};
 ghost use Rattle.ng_shape.specs.Values.{value_of};
 ghost use Rattle.ng_parse.specs.Faults.{Follows};
-ghost use Rattle.ng_parse.specs.Reading.{char_at, escape_at, escape_fault, repeated, string_at, string_char};
-ghost use Rattle.ng_parse.specs.declared.stop.Stop.TheVariants.{At};
+ghost use Rattle.ng_parse.specs.Reading.{char_at, escape_at, escape_fault, repeat, string_at, string_char};
+ghost use Rattle.ng_base.specs.declared.memory.Stop.TheVariants.{Fault as At};
 
-use crate::stop::{Fault, Stop, Why, fault_at};
+use crate::fault::{Fault, Why, fault_at};
 use crate::tokens::behind_mark;
+use ng_base::Stop;
 use ng_shape::Tree;
 use std::alloc::Global;
 
 /// An escape is wrong at its backslash, which stands before the text.
-fn wrong_escape(text: &[u8]) -> Stop
+fn wrong_escape(text: &[u8]) -> Stop<Fault>
     ensures { result ≡ At (escape_fault text.now) }
 {
-    Stop::At(Fault {
+    Stop::Fault(Fault {
         why: Why::Unexpected,
         left: text.len() + 1,
     })
 }
 
 /// The byte behind a backslash that stands before the text.
-fn escape_of(text: &[u8]) -> Result<(Option<u8>, &[u8]), Stop>
+fn escape_of(text: &[u8]) -> Result<(Option<u8>, &[u8]), Stop<Fault>>
     ensures { Follows (λ x. (x.0, x.1.now)) result (escape_at text.now) }
 {
     match text {
@@ -44,11 +45,11 @@ fn escape_of(text: &[u8]) -> Result<(Option<u8>, &[u8]), Stop>
 }
 
 /// The byte of a string at the front, or none at the closing quote.
-fn char_of(text: &[u8]) -> Result<(Option<u8>, &[u8]), Stop>
+fn char_of(text: &[u8]) -> Result<(Option<u8>, &[u8]), Stop<Fault>>
     ensures { Follows (λ x. (x.0, x.1.now)) result (char_at text.now) }
 {
     match text {
-        [] => Err(Stop::At(fault_at(Why::Unexpected, text))),
+        [] => Err(Stop::Fault(fault_at(Why::Unexpected, text))),
         [b'"', rest @ ..] => Ok((None, rest)),
         [b'\\', rest @ ..] => escape_of(rest),
         [byte, rest @ ..] => Ok((Some(*byte), rest)),
@@ -61,7 +62,7 @@ fn char_in<'a>(
     whole: &[u8],
     so_far: &[u8],
     text: &'a [u8],
-) -> Result<(Option<u8>, &'a [u8]), Stop>
+) -> Result<(Option<u8>, &'a [u8]), Stop<Fault>>
     ensures { Follows (λ x. (x.0, x.1.now)) result (string_char n whole.now so_far.now text.now) }
 {
     let (byte, rest) = char_of(text)?;
@@ -69,7 +70,7 @@ fn char_in<'a>(
         return Ok((None, rest));
     };
     if byte == 0 || so_far.len() + 1 >= n as usize {
-        return Err(Stop::At(fault_at(Why::Range, whole)));
+        return Err(Stop::Fault(fault_at(Why::Range, whole)));
     }
     Ok((Some(byte), rest))
 }
@@ -80,9 +81,9 @@ fn chars_of<'a>(
     n: u32,
     whole: &[u8],
     text: &'a [u8],
-) -> Result<(Vec<u8>, &'a [u8]), Stop>
+) -> Result<(Vec<u8>, &'a [u8]), Stop<Fault>>
     ensures { Follows (λ x. (x.0.items, x.1.now)) result
-        (repeated (string_char n whole.now) (length text.now) [] text.now) }
+        (repeat (string_char n whole.now) (length text.now) [] text.now) }
 {
     let mut chars = Vec::new(alloc);
     let mut rest = text;
@@ -94,12 +95,12 @@ fn chars_of<'a>(
         };
         chars.push(byte)?;
     }
-    Err(Stop::At(fault_at(Why::Unexpected, rest)))
+    Err(Stop::Fault(fault_at(Why::Unexpected, rest)))
 }
 
 /// A string of fewer than `n` bytes, none of them zero.
 #[tactic(auto, unfolding(crate::specs::Reading::string_at))]
-pub fn string_at(alloc: Global, n: u32, text: &[u8]) -> Result<(Tree, &[u8]), Stop>
+pub fn string_at(alloc: Global, n: u32, text: &[u8]) -> Result<(Tree, &[u8]), Stop<Fault>>
     ensures { Follows (λ x. (value_of x.0, x.1.now)) result (string_at n text.now) }
 {
     let inside = behind_mark(b'"', text)?;

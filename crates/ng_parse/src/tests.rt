@@ -30,34 +30,40 @@ const MANY_CONFIG: Shape = Shape::Struct(&[
     field!("enabledLinks", Shape::Array(64, &U8)),
 ]);
 
-/// The text is a form of these bytes.
-fn reads(rt: &impl Abort, alloc: Global, shape: &Shape, text: &[u8], bytes: &[u8]) {
-    match to_bytes(alloc, shape, text) {
-        Ok(found) => assert_eq!(rt; found.as_slice(), bytes),
-        Err(fault) => assert!(rt; false, "{fault:?} instead of bytes"),
+/// Each text is a form of these bytes.
+fn read(rt: &impl Abort, alloc: Global, shape: &Shape, rows: &[(&[u8], &[u8])]) {
+    for (text, bytes) in rows {
+        match to_bytes(alloc, shape, text) {
+            Ok(found) => assert_eq!(rt; found.as_slice(), *bytes),
+            Err(fault) => assert!(rt; false, "{fault:?} instead of bytes"),
+        }
     }
 }
 
-/// The text has this fault first.
-fn fails(rt: &impl Abort, alloc: Global, shape: &Shape, text: &[u8], fault: TextFault) {
-    match to_bytes(alloc, shape, text) {
-        Ok(_) => assert!(rt; false, "bytes instead of {fault:?}"),
-        Err(found) => assert_eq!(rt; found, fault),
+/// Each text has this fault first.
+fn fail(rt: &impl Abort, alloc: Global, shape: &Shape, rows: &[(&[u8], TextFault)]) {
+    for (text, fault) in rows {
+        match to_bytes(alloc, shape, text) {
+            Ok(_) => assert!(rt; false, "bytes instead of {fault:?}"),
+            Err(found) => assert_eq!(rt; found, *fault),
+        }
     }
 }
 
 /// The bytes have this text.
-fn prints(rt: &impl Abort, alloc: Global, shape: &Shape, bytes: &[u8], text: &[u8]) {
+fn print(rt: &impl Abort, alloc: Global, shape: &Shape, bytes: &[u8], text: &[u8]) {
     match to_text(alloc, shape, bytes) {
         Ok(found) => assert_eq!(rt; found.as_slice(), text),
         Err(fault) => assert!(rt; false, "{fault:?} instead of a text"),
     }
 }
 
-/// The text is what its own bytes are printed as.
-fn comes_back(rt: &impl Abort, alloc: Global, shape: &Shape, text: &[u8]) {
-    match to_bytes(alloc, shape, text) {
-        Ok(bytes) => prints(rt, alloc, shape, &bytes, text),
-        Err(fault) => assert!(rt; false, "{fault:?} instead of bytes"),
+/// Each text is what its own bytes are printed as.
+fn return_to(rt: &impl Abort, alloc: Global, shape: &Shape, texts: &[&[u8]]) {
+    for text in texts {
+        match to_bytes(alloc, shape, text) {
+            Ok(bytes) => print(rt, alloc, shape, &bytes, text),
+            Err(fault) => assert!(rt; false, "{fault:?} instead of bytes"),
+        }
     }
 }

@@ -2,14 +2,15 @@
 ghost use Rattle.std.specs.Prelude.{◌≡◌, ◌≤◌, ◌^◌, ℕ, Bool, drop, length, min, option_map};
 ghost use Rattle.ng_parse.specs.Faults.{Follows};
 ghost use Rattle.ng_parse.specs.Reading.{mark_at};
-ghost use Rattle.ng_parse.specs.Tokens.{after_word, digits_in, number_in, signed_in, skip, word};
+ghost use Rattle.ng_parse.specs.Tokens.{after_word, digits_in, number_in, signed_in, skip_blanks, word};
 
-use crate::stop::{Fault, Stop, Why, fault_at};
+use crate::fault::{Fault, Why, fault_at};
+use ng_base::Stop;
 use ng_shape::is_word_byte;
 
 /// The text without the blanks at its front.
-pub fn skipped(text: &[u8]) -> &[u8]
-    ensures { result.now ≡ skip text.now }
+pub fn skip_blanks(text: &[u8]) -> &[u8]
+    ensures { result.now ≡ skip_blanks text.now }
 {
     let mut rest = text;
     while let [byte, after @ ..] = rest {
@@ -45,12 +46,12 @@ pub fn split_word(text: &[u8]) -> (&[u8], &[u8])
 }
 
 /// What stands behind a mark.
-pub fn behind_mark(mark: u8, text: &[u8]) -> Result<&[u8], Stop>
+pub fn behind_mark(mark: u8, text: &[u8]) -> Result<&[u8], Stop<Fault>>
     ensures { Follows (λ x. x.now) result (mark_at mark text.now) }
 {
     match text {
         [byte, behind @ ..] if *byte == mark => Ok(behind),
-        _ => Err(Stop::At(fault_at(Why::Unexpected, text))),
+        _ => Err(Stop::Fault(fault_at(Why::Unexpected, text))),
     }
 }
 

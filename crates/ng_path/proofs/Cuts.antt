@@ -5,7 +5,7 @@ use Rattle.std.proofs.lemmas.Bool.{cases_Bool, eqb-true}
 use Rattle.std.proofs.lemmas.List.Splits.{slice_split-cons_yes, slice_split-cons_no}
 use Rattle.std.proofs.lemmas.Iterator.Adapters.{position_from-zero}
 use Rattle.std.proofs.lemmas.Grind.{common_steps}
-use Rattle.ng_path.specs.Parts.{cut_at}
+use Rattle.ng_path.specs.Segments.{cut_at}
 
 -- the mark isn't among the bytes
 abbrev pub IsFree : ℕ → List ℕ → Type 0

@@ -2,24 +2,24 @@
 use Rattle.std.proofs.Common.{◌≡◌, ℕ, ◌+◌, ◌<◌, ◌≤◌, suc, false, eqb, ◌⊎◌, List, [], ◌∷◌, ◌++◌, length, filter, Some, None, refl, sym, ap, subst, ◌∙◌, append_assoc, append-nil, arith, inl, inr}
 use Rattle.std.specs.List.{onto_first, join_with_byte, AllByRecursion}
 use Rattle.std.proofs.lemmas.Bool.{cases_Bool, eqb-true}
-use Rattle.std.proofs.lemmas.List.Sums.{sum_by-cons}
 use Rattle.std.proofs.lemmas.List.Splits.{slice_split-cons_yes, slice_split-cons_no, join_with_byte-slice_split}
 use Rattle.ng_base.specs.Name.{IsName}
 use Rattle.ng_path.specs.declared.fault.PathFault.{PathFault}
 use Rattle.ng_path.specs.declared.fault.PathFault.TheVariants.{TwoDots, BadName}
-use Rattle.ng_path.specs.Parts.{cut_at, has_bytes, hook_names, AreNames, AreNamesJoined}
+use Rattle.ng_path.specs.Segments.{cut_at, has_bytes, hook_names, AreNames, AreNamesJoined}
 use Rattle.ng_path.specs.Grammar.{IsDotOrNothing, IsHookText}
 use Rattle.ng_path.specs.Faults.{dotted_length, IsHookFault, fault_rank}
 use Rattle.ng_path.proofs.Cuts.{cut_free, cut_front, cut_some}
-use Rattle.ng_path.proofs.Names.{name_free, name_some, bad, good_empty, good_name, good_is}
+use Rattle.ng_path.proofs.Names.{name_free, bad, good_empty, good_name, good_is}
+use Rattle.ng_base.proofs.NameLemmas.{no_empty_name}
 use Rattle.ng_path.proofs.Walks.{dotted-cons, opens_empty, first_fault, TwoAt, BadAt, IsPartFault, to_parts, first_precedes}
 
 -- ---- names pass, and what passes is names
 
-opens_names : (parts : List (List ℕ)) → AreNames parts → opens_empty parts ≡ false
+pub opens_names : (parts : List (List ℕ)) → AreNames parts → opens_empty parts ≡ false
 opens_names [] h = refl
 opens_names ([] ∷ []) h = refl
-opens_names ([] ∷ (last ∷ more)) (inl named, rest) = absurd (name_some named)
+opens_names ([] ∷ (last ∷ more)) (inl named, rest) = absurd (no_empty_name named)
 opens_names ([] ∷ (last ∷ more)) (inr (e, none), rest) = absurd (cc none)
 opens_names ((b ∷ part) ∷ parts) h = refl
 
@@ -27,7 +27,7 @@ good_part : (part : List ℕ) (others : List (List ℕ)) → IsName part ⊎ ((p
 good_part part others (inl named) = good_name part named
 good_part part others (inr (e, none)) = ap bad e ∙ good_empty
 
-names_pass : (place : ℕ) (parts : List (List ℕ)) → AreNames parts → first_fault place parts ≡ None
+pub names_pass : (place : ℕ) (parts : List (List ℕ)) → AreNames parts → first_fault place parts ≡ None
 names_pass place [] h = refl
 names_pass place (part ∷ parts) h = rw (good_part part parts h.0, opens_names parts h.1) (names_pass (place + length part + 1) parts h.1)
 
@@ -50,7 +50,8 @@ last_empty [] [] e o = refl
 last_empty [] (next ∷ parts) e o = absurd (cc o)
 last_empty (b ∷ part) parts e o = absurd (cc e)
 
-part_kind : (part : List ℕ) (parts : List (List ℕ)) → opens_empty (part ∷ parts) ≡ false → (part ≡ []) ⊎ IsName part → IsName part ⊎ ((part ≡ []) × (parts ≡ []))
+part_kind : (part : List ℕ) (parts : List (List ℕ)) → opens_empty (part ∷ parts) ≡ false
+    → (part ≡ []) ⊎ IsName part → IsName part ⊎ ((part ≡ []) × (parts ≡ []))
 part_kind part parts o (inl e) = inr (e, last_empty part parts e o)
 part_kind part parts o (inr named) = inl named
 
@@ -100,7 +101,7 @@ alone name named = record { back = []; names = (named, tt); trailing = inl refl;
 
 written : (parts : List (List ℕ)) → AreNames parts → IsWritten (join_with_byte 0x2e parts) (filter has_bytes parts)
 written [] h = no_names
-written ([] ∷ parts) (inl named, rest) = absurd (name_some named)
+written ([] ∷ parts) (inl named, rest) = absurd (no_empty_name named)
 written ([] ∷ []) (inr none, rest) = no_names
 written ([] ∷ (next ∷ parts)) (inr none, rest) = absurd (cc (none.1))
 written ((b ∷ part) ∷ parts) (inr none, rest) = absurd (cc (none.0))
@@ -126,7 +127,7 @@ pub record IsCutInto (text : List ℕ) (hooks : List (List ℕ)) : Type 0 where
   pub same : hook_names text ≡ hooks
 
 some_named : (name : List ℕ) (parts : List (List ℕ)) → IsName name → filter has_bytes (name ∷ parts) ≡ name ∷ filter has_bytes parts
-some_named [] parts named = absurd (name_some named)
+some_named [] parts named = absurd (no_empty_name named)
 some_named (b ∷ name) parts named = refl
 
 into : (text : List ℕ) (parts hooks : List (List ℕ)) → cut_at 0x2e text ≡ parts → AreNames parts → filter has_bytes parts ≡ hooks → IsCutInto text hooks
@@ -135,7 +136,8 @@ into text parts hooks e names same = record {
   same = ap (λ (l : List (List ℕ)). filter has_bytes l) e ∙ same;
 }
 
-cut_written : (hooks : List (List ℕ)) (back : List ℕ) → AllByRecursion IsName hooks → IsDotOrNothing back → (hooks ≡ [] → back ≡ []) → IsCutInto (join_with_byte 0x2e hooks ++ back) hooks
+cut_written : (hooks : List (List ℕ)) (back : List ℕ) → AllByRecursion IsName hooks → IsDotOrNothing back
+    → (hooks ≡ [] → back ≡ []) → IsCutInto (join_with_byte 0x2e hooks ++ back) hooks
 cut_written [] back names trailing lone =
     into back ([] ∷ []) [] (ap (λ (l : List ℕ). cut_at 0x2e l) (lone refl)) (inr (refl, refl), tt) refl
 cut_written (name ∷ []) back names (inl e) lone =
@@ -165,7 +167,8 @@ reads_dotted place text hooks h = record {
   same = h.same;
 }
 
-reads_from : (place : ℕ) (front core text : List ℕ) (hooks : List (List ℕ)) → text ≡ front ++ core → IsDotOrNothing front → IsCutInto core hooks → Reads place text hooks
+reads_from : (place : ℕ) (front core text : List ℕ) (hooks : List (List ℕ)) → text ≡ front ++ core
+    → IsDotOrNothing front → IsCutInto core hooks → Reads place text hooks
 reads_from place front core text hooks e (inl none) h =
     subst (λ (l : List ℕ). Reads place l hooks) (sym (e ∙ ap (λ (l : List ℕ). l ++ core) none)) (reads_plain place core hooks h)
 reads_from place front core text hooks e (inr dot) h =

@@ -6,3 +6,4 @@ pub mod Steps
 pub mod Nodes
 pub mod Whole
 pub mod Digits
+pub mod Addresses

@@ -13,9 +13,10 @@ use Rattle.ng_path.specs.declared.path.Head.TheVariants.{Local, Named, Id}
 use Rattle.ng_path.specs.Grammar.{IsIdText, IsNodeText}
 use Rattle.ng_path.specs.Faults.{IsNodeFault}
 use Rattle.ng_path.proofs.Cuts.{IsFree, free_append}
-use Rattle.ng_path.proofs.Names.{name_free, name_some}
+use Rattle.ng_path.proofs.Names.{name_free}
+use Rattle.ng_base.proofs.NameLemmas.{no_empty_name}
 
-no_dot_name : IsName (0x2e ∷ []) → ⊥
+pub no_dot_name : IsName (0x2e ∷ []) → ⊥
 no_dot_name h = cc h
 
 local_named : (text name : List ℕ) → text ≡ 0x2e ∷ [] → text ≡ name → IsName name → ⊥
@@ -69,7 +70,7 @@ node_free text (Id id) h =
 
 pub node_some : (head : Head) → IsNodeText [] head → ⊥
 node_some Local h = cc h
-node_some (Named name) h = name_some (subst (λ (l : List ℕ). IsName l) (sym h.0) h.1)
+node_some (Named name) h = no_empty_name (subst (λ (l : List ℕ). IsName l) (sym h.0) h.1)
 node_some (Id id) h = cc (h.2)
 
 pub no_node_fault : (text : List ℕ) (head : Head) (fault : PathFault) → IsNodeText text head → IsNodeFault text fault → ⊥

@@ -6,8 +6,8 @@ use Rattle.std.proofs.lemmas.List.Sums.{sum_by-cons}
 use Rattle.std.proofs.lemmas.List.Splits.{slice_split-cons_yes, slice_split-cons_no, join_with_byte-slice_split}
 use Rattle.ng_path.specs.declared.fault.PathFault.{PathFault}
 use Rattle.ng_path.specs.declared.fault.PathFault.TheVariants.{TooLong, EmptyNode, SecondColon, TwoDots, BadName}
-use Rattle.ng_path.specs.Parts.{cut_at}
-use Rattle.ng_path.specs.Faults.{IsBadPart, dotted_length, HasTwoDots, HasBadPart, IsHookFault, fault_rank, IsFirstOf}
+use Rattle.ng_path.specs.Segments.{cut_at}
+use Rattle.ng_path.specs.Faults.{IsBadSegment, dotted_length, HasTwoDots, HasBadSegment, IsHookFault, fault_rank, IsFirstOf}
 use Rattle.ng_path.proofs.Cuts.{cut_some}
 use Rattle.ng_path.proofs.Names.{bad, bad_is, bad_from}
 
@@ -30,7 +30,7 @@ TwoAt (part ∷ parts) n = ((opens_empty parts ≡ true) × (n ≡ length part))
 -- a part behind `n` bytes is bad
 abbrev pub BadAt : List (List ℕ) → ℕ → Type 0
 BadAt [] n = ⊥
-BadAt (part ∷ parts) n = (IsBadPart part × (n ≡ 0)) ⊎ ((m : ℕ) × (n ≡ length part + 1 + m) × BadAt parts m)
+BadAt (part ∷ parts) n = (IsBadSegment part × (n ≡ 0)) ⊎ ((m : ℕ) × (n ≡ length part + 1 + m) × BadAt parts m)
 
 abbrev pub IsPartFault : ℕ → List (List ℕ) → PathFault → Type 0
 IsPartFault place parts fault =
@@ -80,15 +80,15 @@ two_joined (part ∷ (next ∷ more)) n (inr (m, at, later)) =
 two_back : (text : List ℕ) (n : ℕ) → TwoAt (cut_at 0x2e text) n → HasTwoDots text n
 two_back text n h = subst (λ (l : List ℕ). HasTwoDots l n) (join_with_byte-slice_split 0x2e text) (two_joined (cut_at 0x2e text) n h)
 
-bad_front : (before : List (List ℕ)) (part : List ℕ) (after : List (List ℕ)) → IsBadPart part → BadAt (before ++ part ∷ after) (dotted_length before)
+bad_front : (before : List (List ℕ)) (part : List ℕ) (after : List (List ℕ)) → IsBadSegment part → BadAt (before ++ part ∷ after) (dotted_length before)
 bad_front [] part after h = inl (h, refl)
 bad_front (first ∷ before) part after h = inr (dotted_length before, dotted-cons first before, bad_front before part after h)
 
-bad_at : (text : List ℕ) (n : ℕ) → HasBadPart text n → BadAt (cut_at 0x2e text) n
-bad_at text n h = rw (h.parts, h.at) (bad_front h.before h.part h.after h.bad)
+bad_at : (text : List ℕ) (n : ℕ) → HasBadSegment text n → BadAt (cut_at 0x2e text) n
+bad_at text n h = rw (h.segments, h.at) (bad_front h.before h.segment h.after h.bad)
 
 bad_split : (parts : List (List ℕ)) (n : ℕ) → BadAt parts n
-    → (before : List (List ℕ)) × (part : List ℕ) × (after : List (List ℕ)) × (parts ≡ before ++ part ∷ after) × IsBadPart part × (n ≡ dotted_length before)
+    → (before : List (List ℕ)) × (part : List ℕ) × (after : List (List ℕ)) × (parts ≡ before ++ part ∷ after) × IsBadSegment part × (n ≡ dotted_length before)
 bad_split [] n h = absurd h
 bad_split (part ∷ parts) n (inl (h, at)) = ([], part, parts, refl, h, at)
 bad_split (part ∷ parts) n (inr (m, at, later)) =
@@ -101,10 +101,10 @@ bad_split (part ∷ parts) n (inr (m, at, later)) =
       (let shift = rest.5 in let sum = dotted-cons part rest.0 in omega arith),
     )
 
-bad_back : (text : List ℕ) (n : ℕ) → BadAt (cut_at 0x2e text) n → HasBadPart text n
+bad_back : (text : List ℕ) (n : ℕ) → BadAt (cut_at 0x2e text) n → HasBadSegment text n
 bad_back text n h =
     let split = bad_split (cut_at 0x2e text) n h in
-    record { before = split.0; part = split.1; after = split.2; parts = split.3; bad = split.4; at = split.5 }
+    record { before = split.0; segment = split.1; after = split.2; segments = split.3; bad = split.4; at = split.5 }
 
 pub to_parts : (place : ℕ) (text : List ℕ) (fault : PathFault) → IsHookFault place text fault → IsPartFault place (cut_at 0x2e text) fault
 to_parts place text TooLong h = absurd h
@@ -119,7 +119,8 @@ from_parts place text fault (inr (n, e, h)) = subst (λ (f : PathFault). IsHookF
 
 -- ---- the first fault is a fault, and no other comes before it
 
-fault_later : (place : ℕ) (part : List ℕ) (parts : List (List ℕ)) (fault : PathFault) → IsPartFault (place + length part + 1) parts fault → IsPartFault place (part ∷ parts) fault
+fault_later : (place : ℕ) (part : List ℕ) (parts : List (List ℕ)) (fault : PathFault)
+    → IsPartFault (place + length part + 1) parts fault → IsPartFault place (part ∷ parts) fault
 fault_later place part parts fault (inl (n, e, h)) =
     inl (length part + 1 + n, (let at : place + length part + 1 + n ≡ place + (length part + 1 + n) = omega arith in e ∙ ap (λ (k : ℕ). BadName k) at), inr (n, refl, h))
 fault_later place part parts fault (inr (n, e, h)) =
@@ -145,24 +146,27 @@ first_is_fault place (part ∷ parts) fault h = elim (cases_Bool (bad part)) [
 abbrev pub Precedes : PathFault → PathFault → Type 0
 Precedes fault other = (other ≡ fault) ⊎ (fault_rank fault < fault_rank other)
 
-some_length : (part : List ℕ) → IsBadPart part → 0 < length part
+some_length : (part : List ℕ) → IsBadSegment part → 0 < length part
 some_length [] h = absurd (h.0 refl)
 some_length (b ∷ part) h = omega arith
 
-before_bad : (place : ℕ) (part : List ℕ) (parts : List (List ℕ)) (other : PathFault) → IsBadPart part → IsPartFault place (part ∷ parts) other → Precedes (BadName place) other
+before_bad : (place : ℕ) (part : List ℕ) (parts : List (List ℕ)) (other : PathFault) → IsBadSegment part
+    → IsPartFault place (part ∷ parts) other → Precedes (BadName place) other
 before_bad place part parts other wrong (inl (n, e, inl (h, at))) =
     let same : place + n ≡ place = omega arith in inl (e ∙ ap (λ (k : ℕ). BadName k) same)
 before_bad place part parts other wrong (inl (n, e, inr (m, at, h))) = let rank = ap fault_rank e in inr (omega arith)
 before_bad place part parts other wrong (inr (n, e, inl (two, at))) = let rank = ap fault_rank e in let some = some_length part wrong in inr (omega arith)
 before_bad place part parts other wrong (inr (n, e, inr (m, at, h))) = let rank = ap fault_rank e in inr (omega arith)
 
-before_two : (place : ℕ) (part : List ℕ) (parts : List (List ℕ)) (other : PathFault) → bad part ≡ false → IsPartFault place (part ∷ parts) other → Precedes (TwoDots (place + length part)) other
+before_two : (place : ℕ) (part : List ℕ) (parts : List (List ℕ)) (other : PathFault) → bad part ≡ false
+    → IsPartFault place (part ∷ parts) other → Precedes (TwoDots (place + length part)) other
 before_two place part parts other good (inl (n, e, inl (h, at))) = let wrong = bad_from part h in absurd (cc (good, wrong))
 before_two place part parts other good (inl (n, e, inr (m, at, h))) = let rank = ap fault_rank e in inr (omega arith)
 before_two place part parts other good (inr (n, e, inl (two, at))) = inl (e ∙ ap (λ (k : ℕ). TwoDots (place + k)) at)
 before_two place part parts other good (inr (n, e, inr (m, at, h))) = let rank = ap fault_rank e in inr (omega arith)
 
-behind : (place : ℕ) (part : List ℕ) (parts : List (List ℕ)) (other : PathFault) → bad part ≡ false → opens_empty parts ≡ false → IsPartFault place (part ∷ parts) other
+behind : (place : ℕ) (part : List ℕ) (parts : List (List ℕ)) (other : PathFault) → bad part ≡ false
+    → opens_empty parts ≡ false → IsPartFault place (part ∷ parts) other
     → IsPartFault (place + length part + 1) parts other
 behind place part parts other good one (inl (n, e, inl (h, at))) = let wrong = bad_from part h in absurd (cc (good, wrong))
 behind place part parts other good one (inl (n, e, inr (m, at, h))) =
@@ -185,7 +189,8 @@ first_precedes place (part ∷ parts) other h = elim (cases_Bool (bad part)) [
 ]
 
 -- the fault that is found is the first
-pub is_first : (place : ℕ) (text : List ℕ) (fault : PathFault) → first_fault place (cut_at 0x2e text) ≡ Some fault → IsFirstOf (IsHookFault place text) fault
+pub is_first : (place : ℕ) (text : List ℕ) (fault : PathFault)
+    → first_fault place (cut_at 0x2e text) ≡ Some fault → IsFirstOf (IsHookFault place text) fault
 is_first place text fault h = record {
   there = from_parts place text fault (first_is_fault place (cut_at 0x2e text) fault h);
   first = λ other there.

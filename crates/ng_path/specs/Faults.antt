@@ -1,11 +1,11 @@
--- What is wrong with bytes that are no address, and which of several faults is told. The rules are those of
+-- What is wrong with bytes that are an invalid address, and which of several faults is told. The rules are those of
 -- the grammar, broken; that one fault alone is told, and which, is this project's choice.
 use Rattle.std.specs.Prelude.{◌≡◌, ◌≢◌, ◌+◌, ◌<◌, ℕ, ◌⊎◌, List, [], ◌∷◌, ◌++◌, length, sum_by}
 use Rattle.ng_base.specs.Name.{IsName}
 use Rattle.ng_path.specs.declared.path.Head.{Head}
 use Rattle.ng_path.specs.declared.fault.PathFault.{PathFault}
 use Rattle.ng_path.specs.declared.fault.PathFault.TheVariants.{TooLong, EmptyNode, SecondColon, TwoDots, BadName}
-use Rattle.ng_path.specs.Parts.{cut_at}
+use Rattle.ng_path.specs.Segments.{cut_at}
 use Rattle.ng_path.specs.Grammar.{IsNodeText}
 
 -- what is wrong with a node part: nothing stands there, or what stands there is no node
@@ -17,15 +17,15 @@ IsNodeFault node (TwoDots place) = ⊥
 IsNodeFault node (BadName place) = (place ≡ 0) × ((head : Head) → IsNodeText node head → ⊥)
 
 -- neither empty nor a name
-abbrev pub IsBadPart : List ℕ → Type 0
-IsBadPart part = (part ≢ []) × (IsName part → ⊥)
+abbrev pub IsBadSegment : List ℕ → Type 0
+IsBadSegment segment = (segment ≢ []) × (IsName segment → ⊥)
 
 abbrev pub StartsWithDot : List ℕ → Type 0
 StartsWithDot text = (rest : List ℕ) × (text ≡ 0x2e ∷ rest)
 
--- how many bytes the parts take, each with the dot behind it
+-- how many bytes the segments take, each with the dot behind it
 abbrev pub dotted_length : List (List ℕ) → ℕ
-dotted_length parts = sum_by (λ part. length part + 1) parts
+dotted_length segments = sum_by (λ segment. length segment + 1) segments
 
 -- two dots stand side by side, the first behind `place` bytes
 pub record HasTwoDots (text : List ℕ) (place : ℕ) : Type 0 where
@@ -34,13 +34,13 @@ pub record HasTwoDots (text : List ℕ) (place : ℕ) : Type 0 where
   pub whole : text ≡ front ++ (0x2e ∷ 0x2e ∷ back)
   pub at : place ≡ length front
 
--- of the parts between the dots, one that begins behind `place` bytes is neither empty nor a name
-pub record HasBadPart (text : List ℕ) (place : ℕ) : Type 0 where
+-- of the segments between the dots, one that begins behind `place` bytes is neither empty nor a name
+pub record HasBadSegment (text : List ℕ) (place : ℕ) : Type 0 where
   pub before : List (List ℕ)
-  pub part : List ℕ
+  pub segment : List ℕ
   pub after : List (List ℕ)
-  pub parts : cut_at 0x2e text ≡ before ++ part ∷ after
-  pub bad : IsBadPart part
+  pub segments : cut_at 0x2e text ≡ before ++ segment ∷ after
+  pub bad : IsBadSegment segment
   pub at : place ≡ dotted_length before
 
 -- what is wrong with a hook part that begins at the place `from`
@@ -49,21 +49,22 @@ IsHookFault from text TooLong = ⊥
 IsHookFault from text EmptyNode = ⊥
 IsHookFault from text (SecondColon place) = ⊥
 IsHookFault from text (TwoDots place) = (n : ℕ) × HasTwoDots text n × (place ≡ from + n)
-IsHookFault from text (BadName place) = (n : ℕ) × HasBadPart text n × (place ≡ from + n)
+IsHookFault from text (BadName place) = (n : ℕ) × HasBadSegment text n × (place ≡ from + n)
 
 -- What is wrong with bytes that are cut at their colons. Without a colon they are one hook part, which isn't
 -- empty. With a colon a node part comes first and then a hook part; a second colon is a fault itself, and
 -- nothing behind it is looked at.
-abbrev pub IsFaultOfParts : List (List ℕ) → PathFault → Type 0
-IsFaultOfParts [] fault = ⊥
-IsFaultOfParts (hooks ∷ []) fault = ((hooks ≡ []) × (fault ≡ BadName 0)) ⊎ IsHookFault 0 hooks fault
-IsFaultOfParts (node ∷ hooks ∷ []) fault = IsNodeFault node fault ⊎ IsHookFault (length node + 1) hooks fault
-IsFaultOfParts (node ∷ hooks ∷ next ∷ others) fault =
-    (IsNodeFault node fault ⊎ IsHookFault (length node + 1) hooks fault) ⊎ (fault ≡ SecondColon (length node + 1 + length hooks))
+abbrev pub IsFaultOfSegments : List (List ℕ) → PathFault → Type 0
+IsFaultOfSegments [] fault = ⊥
+IsFaultOfSegments (hooks ∷ []) fault = ((hooks ≡ []) × (fault ≡ BadName 0)) ⊎ IsHookFault 0 hooks fault
+IsFaultOfSegments (node ∷ hooks ∷ []) fault = IsNodeFault node fault ⊎ IsHookFault (length node + 1) hooks fault
+IsFaultOfSegments (node ∷ hooks ∷ next ∷ others) fault =
+    (IsNodeFault node fault ⊎ IsHookFault (length node + 1) hooks fault)
+    ⊎ (fault ≡ SecondColon (length node + 1 + length hooks))
 
 -- the bytes have this fault, perhaps beside others
 abbrev pub HasFault : List ℕ → PathFault → Type 0
-HasFault bytes fault = ((511 < length bytes) × (fault ≡ TooLong)) ⊎ IsFaultOfParts (cut_at 0x3a bytes) fault
+HasFault bytes fault = ((511 < length bytes) × (fault ≡ TooLong)) ⊎ IsFaultOfSegments (cut_at 0x3a bytes) fault
 
 -- the lesser is told: TooLong, then an empty node, whose place is 0, and then by places
 abbrev pub fault_rank : PathFault → ℕ

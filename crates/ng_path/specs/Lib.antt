@@ -1,3 +1,4 @@
-pub mod Parts
+pub mod Segments
 pub mod Grammar
 pub mod Faults
+pub mod Address

@@ -1,6 +1,6 @@
 // Bytes and the marks that part them.
 ghost use Rattle.std.specs.Prelude.{◌≡◌, ◌==◌, ◌∷◌, ◌++◌, [], ℕ, List, MatchOption, position};
-ghost use Rattle.ng_path.specs.Parts.{cut_at};
+ghost use Rattle.ng_path.specs.Segments.{cut_at};
 
 fn first_place(bytes: &[u8], mark: u8) -> Option<usize>
     ensures { result ≡ position (λ byte. byte == mark) bytes.now }

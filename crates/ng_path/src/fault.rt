@@ -1,7 +1,7 @@
-// Why bytes are no address.
+// Why bytes are an invalid address.
 use thiserror::Error;
 
-/// Why bytes are no address. A place counts bytes from 0.
+/// Why bytes are an invalid address. A place counts bytes from 0.
 ///
 /// Of several faults the one of least place is told; at place 0 `EmptyNode` goes first, and
 /// `TooLong` goes before all others.

@@ -15,7 +15,7 @@ pub struct Hooks<'a> {
 
 impl<'a> Model for Hooks<'a> {
     ghost use Rattle.std.specs.Prelude.{ℕ, List};
-    ghost use Rattle.ng_path.specs.Parts.{hook_names, AreNamesJoined};
+    ghost use Rattle.ng_path.specs.Segments.{hook_names, AreNamesJoined};
 
     ghost Value = { List (List ℕ) };
 
@@ -26,7 +26,7 @@ impl<'a> Model for Hooks<'a> {
 
 impl<'a> Hooks<'a> {
     ghost use Rattle.std.specs.Prelude.{◌≡◌};
-    ghost use Rattle.ng_path.specs.Parts.{hook_names};
+    ghost use Rattle.ng_path.specs.Segments.{hook_names};
     ghost use Rattle.ng_path.specs.Grammar.{IsHookText};
 
     /// The hooks of a hook part that has no fault.

@@ -13,6 +13,6 @@ mod tests;
 
 pub use fault::PathFault;
 pub use hooks::Hooks;
-pub use laws::{one_fault, one_path, path_or_fault};
+pub use laws::{one_fault, one_path, path_or_fault, reads_address};
 pub use path::{Head, Path};
 pub use reading::read_path;

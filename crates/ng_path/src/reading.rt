@@ -3,9 +3,9 @@ ghost use Rattle.std.specs.Prelude.{◌≡◌, ◌+◌, ◌<◌, ◌^◌, ◌≤
 ghost use Rattle.std.specs.Str.Parse.{AllDigits, digits_value};
 ghost use Rattle.ng_path.specs.declared.fault.PathFault.{PathFault};
 ghost use Rattle.ng_path.specs.declared.path.Head.{Head};
-ghost use Rattle.ng_path.specs.Parts.{cut_at, hook_names};
+ghost use Rattle.ng_path.specs.Segments.{cut_at, hook_names};
 ghost use Rattle.ng_path.specs.Grammar.{IsPath, IsNodeText, IsHookText, IsIdText};
-ghost use Rattle.ng_path.specs.Faults.{IsFirstFault, IsFirstOf, IsHookFault, IsBadPart, StartsWithDot};
+ghost use Rattle.ng_path.specs.Faults.{IsFirstFault, IsFirstOf, IsHookFault, IsBadSegment, StartsWithDot};
 
 use crate::cut::cut;
 use crate::{Head, Hooks, Path, PathFault};
@@ -74,7 +74,7 @@ fn read_node(text: &[u8]) -> Option<Head>
 
 /// Whether a part of a hook part is neither empty nor a name.
 fn is_bad(part: &[u8]) -> bool
-    ensures { IsTrue result ↔ IsBadPart part.now }
+    ensures { IsTrue result ↔ IsBadSegment part.now }
 {
     !part.is_empty() && Name::read(part).is_err()
 }

@@ -1,4 +1,4 @@
-// Tables of addresses: what is read, and what is told of bytes that are none.
+// Tables of addresses: what is read, and what is told of invalid ones.
 use crate::{Head, Hooks, PathFault, read_path};
 use ng_base::{Name, NodeId};
 use std::process::Abort;
@@ -105,31 +105,4 @@ fn faults_of_text_are_told(rt: HostRuntime) {
     ] {
         assert_eq!(rt; read_path(text.as_bytes()).err(), Some(fault), "{text:?}");
     }
-}
-
-#[test]
-fn bytes_that_are_no_text_are_bad_names(rt: HostRuntime) {
-    assert_eq!(rt; read_path(b"a.\xff").err(), Some(PathFault::BadName(2)));
-    assert_eq!(rt; read_path(b"\xff:").err(), Some(PathFault::BadName(0)));
-    assert_eq!(rt; read_path(b"[\xff]:").err(), Some(PathFault::BadName(0)));
-}
-
-#[test]
-fn an_address_has_at_most_511_bytes(rt: HostRuntime) -> Result<(), Fail> {
-    let mut text = String::from_str(rt.alloc(), "a")?;
-    for _ in 0..255 {
-        text.push_str(".a")?;
-    }
-    let mut hooks = read_path(text.as_str().as_bytes())?.hooks;
-    for place in 0..256 {
-        assert!(rt; hooks.next().is_some(), "hook {place}");
-    }
-    assert!(rt; hooks.next().is_none());
-    text.push_str(".")?;
-    assert_eq!(rt; text.len(), 512);
-    let longer = read_path(text.as_str().as_bytes()).err();
-    assert_eq!(rt; longer, Some(PathFault::TooLong));
-    assert_eq!(rt; read_path(&[b':'; 512]).err(), Some(PathFault::TooLong));
-    assert_eq!(rt; read_path(&[b'.'; 511]).err(), Some(PathFault::TwoDots(0)));
-    Ok(())
 }

@@ -5,6 +5,7 @@ use Rattle.std.proofs.lemmas.Bool.{cases_lt, eqb-true, ltb-false}
 use Rattle.std.proofs.lemmas.Grind.{common_steps}
 use Rattle.std.proofs.lemmas.List.{drop-drop, get_or-drop, length-drop, length-take-le, nil_from_length, take-append-drop}
 use Rattle.byteorder.specs.Numbers.{big_from-lt, little_from-lt}
+use Rattle.ng_base.specs.declared.packet.TheConstants.{MAX_PACKET_LEN}
 use Rattle.ng_pcap.specs.declared.fault.CaptureFault.{CaptureFault}
 use Rattle.ng_pcap.specs.declared.fault.CaptureFault.TheVariants.{ShortHeader}
 use Rattle.ng_pcap.specs.declared.format.Endian.{Endian}
@@ -28,23 +29,27 @@ number-lt Big size place bytes fits = big_from-lt 0 size (drop place bytes) (IsB
 number-lt Little size place bytes fits = little_from-lt 0 size (drop place bytes) (IsBytes-drop place bytes fits)
 
 -- a number's bytes are those that stand in its place
-two_bytes : (endian : Endian) (bytes : List ℕ) → 2 ≤ length bytes → IsBytes bytes → number_bytes endian 2 (number endian 2 0 bytes) ≡ take 2 bytes
+two_bytes : (endian : Endian) (bytes : List ℕ) → 2 ≤ length bytes → IsBytes bytes
+    → number_bytes endian 2 (number endian 2 0 bytes) ≡ take 2 bytes
 two_bytes Big bytes long fits = grind (arith, common_steps)
 two_bytes Little bytes long fits = grind (arith, common_steps)
 
-pub four_bytes : (endian : Endian) (bytes : List ℕ) → 4 ≤ length bytes → IsBytes bytes → number_bytes endian 4 (number endian 4 0 bytes) ≡ take 4 bytes
+pub four_bytes : (endian : Endian) (bytes : List ℕ) → 4 ≤ length bytes → IsBytes bytes
+    → number_bytes endian 4 (number endian 4 0 bytes) ≡ take 4 bytes
 four_bytes Big bytes long fits = grind (arith, common_steps)
 four_bytes Little bytes long fits = grind (arith, common_steps)
 
 -- a number that stands at a place, and behind it what stands there
-join_two : (endian : Endian) (place : ℕ) (bytes behind : List ℕ) → place + 2 ≤ length bytes → IsBytes bytes → behind ≡ drop (place + 2) bytes
+join_two : (endian : Endian) (place : ℕ) (bytes behind : List ℕ) → place + 2 ≤ length bytes → IsBytes bytes
+    → behind ≡ drop (place + 2) bytes
     → number_bytes endian 2 (number endian 2 0 (drop place bytes)) ++ behind ≡ drop place bytes
 join_two endian place bytes behind long fits same =
     ap (λ (l : List ℕ). l ++ behind) (two_bytes endian (drop place bytes) (omega (arith, length-drop place bytes)) (IsBytes-drop place bytes fits))
     ∙ ap (λ (l : List ℕ). take 2 (drop place bytes) ++ l) (same ∙ sym (drop-drop 2 place bytes))
     ∙ take-append-drop 2 (drop place bytes)
 
-join_four : (endian : Endian) (place : ℕ) (bytes behind : List ℕ) → place + 4 ≤ length bytes → IsBytes bytes → behind ≡ drop (place + 4) bytes
+join_four : (endian : Endian) (place : ℕ) (bytes behind : List ℕ) → place + 4 ≤ length bytes → IsBytes bytes
+    → behind ≡ drop (place + 4) bytes
     → number_bytes endian 4 (number endian 4 0 (drop place bytes)) ++ behind ≡ drop place bytes
 join_four endian place bytes behind long fits same =
     ap (λ (l : List ℕ). l ++ behind) (four_bytes endian (drop place bytes) (omega (arith, length-drop place bytes)) (IsBytes-drop place bytes fits))
@@ -52,17 +57,24 @@ join_four endian place bytes behind long fits same =
     ∙ take-append-drop 4 (drop place bytes)
 
 -- the number at a place begins what stands from there on
-number-drop : (endian : Endian) (size place : ℕ) (bytes : List ℕ) → number endian size 0 (drop place bytes) ≡ number endian size place bytes
+number-drop : (endian : Endian) (size place : ℕ) (bytes : List ℕ)
+    → number endian size 0 (drop place bytes) ≡ number endian size place bytes
 number-drop Big size place bytes = refl
 number-drop Little size place bytes = refl
 
-four : (endian : Endian) (place : ℕ) (bytes behind : List ℕ) → place + 4 ≤ length bytes → IsBytes bytes → behind ≡ drop (place + 4) bytes
+four : (endian : Endian) (place : ℕ) (bytes behind : List ℕ) → place + 4 ≤ length bytes → IsBytes bytes
+    → behind ≡ drop (place + 4) bytes
     → number_bytes endian 4 (number endian 4 place bytes) ++ behind ≡ drop place bytes
-four endian place bytes behind long fits same = ap (λ (n : ℕ). number_bytes endian 4 n ++ behind) (sym (number-drop endian 4 place bytes)) ∙ join_four endian place bytes behind long fits same
+four endian place bytes behind long fits same =
+    ap (λ (n : ℕ). number_bytes endian 4 n ++ behind) (sym (number-drop endian 4 place bytes))
+    ∙ join_four endian place bytes behind long fits same
 
-two : (endian : Endian) (place : ℕ) (bytes behind : List ℕ) → place + 2 ≤ length bytes → IsBytes bytes → behind ≡ drop (place + 2) bytes
+two : (endian : Endian) (place : ℕ) (bytes behind : List ℕ) → place + 2 ≤ length bytes → IsBytes bytes
+    → behind ≡ drop (place + 2) bytes
     → number_bytes endian 2 (number endian 2 place bytes) ++ behind ≡ drop place bytes
-two endian place bytes behind long fits same = ap (λ (n : ℕ). number_bytes endian 2 n ++ behind) (sym (number-drop endian 2 place bytes)) ∙ join_two endian place bytes behind long fits same
+two endian place bytes behind long fits same =
+    ap (λ (n : ℕ). number_bytes endian 2 n ++ behind) (sym (number-drop endian 2 place bytes))
+    ∙ join_two endian place bytes behind long fits same
 
 -- the entry that stands in front
 abbrev entry_at : Endian → List ℕ → Entry
@@ -75,11 +87,13 @@ entry_at endian left = record {
 
 -- a packet whose end is there
 record IsThere (endian : Endian) (left : List ℕ) : Type 0 where
-  low : number endian 4 8 left ≤ 262_144
+  low : number endian 4 8 left ≤ MAX_PACKET_LEN
   room : 16 + number endian 4 8 left ≤ length left
 
-length-packet : (endian : Endian) (left : List ℕ) → IsThere endian left → length (take (number endian 4 8 left) (drop 16 left)) ≡ number endian 4 8 left
-length-packet endian left there = length-take-le (number endian 4 8 left) (drop 16 left) (let room = there.room in omega (arith, length-drop 16 left))
+length-packet : (endian : Endian) (left : List ℕ) → IsThere endian left
+    → length (take (number endian 4 8 left) (drop 16 left)) ≡ number endian 4 8 left
+length-packet endian left there =
+    length-take-le (number endian 4 8 left) (drop 16 left) (let room = there.room in omega (arith, length-drop 16 left))
 
 IsEntry-entry_at : (endian : Endian) (left : List ℕ) → IsBytes left → IsThere endian left → IsEntry (entry_at endian left)
 IsEntry-entry_at endian left fits there = record {
@@ -114,7 +128,8 @@ record Parts (endian : Endian) (left : List ℕ) : Type 0 where
 no_packets : (endian : Endian) (left : List ℕ) → (left ≡ []) ⊎ (IsCut endian left ⊎ IsTooLong endian left) → Parts endian left
 no_packets endian left ends = record { entries = []; rest = left; fits = tt; whole = refl; ends = ends }
 
-one_packet : (endian : Endian) (left : List ℕ) → IsBytes left → IsThere endian left → Parts endian (drop (number endian 4 8 left) (drop 16 left)) → Parts endian left
+one_packet : (endian : Endian) (left : List ℕ) → IsBytes left → IsThere endian left
+    → Parts endian (drop (number endian 4 8 left) (drop 16 left)) → Parts endian left
 one_packet endian left fits there others =
     let first : List ℕ = entry_bytes endian (entry_at endian left) in
     record {
@@ -135,12 +150,13 @@ parts_of (suc turns) endian left fits enough =
       | inl none ↦ no_packets endian left (inl (nil_from_length left (omega arith)))
       | inr some ↦ elim (cases_lt (length left) 16) [
         | inl short ↦ no_packets endian left (inr (inl (some, inl short)))
-        | inr room ↦ elim (cases_lt 262_144 (number endian 4 8 left)) [
+        | inr room ↦ elim (cases_lt MAX_PACKET_LEN (number endian 4 8 left)) [
           | inl high ↦ no_packets endian left (inr (inr (room, high)))
           | inr low ↦ elim (cases_lt (length left) (16 + number endian 4 8 left)) [
             | inl ends ↦ no_packets endian left (inr (inl (some, inr (low, ends))))
             | inr there ↦ one_packet endian left fits (record { low = low; room = there })
-                (parts_of turns endian (drop (number endian 4 8 left) (drop 16 left)) (IsBytes-drop (number endian 4 8 left) (drop 16 left) (IsBytes-drop 16 left fits))
+                (parts_of turns endian (drop (number endian 4 8 left) (drop 16 left))
+                (IsBytes-drop (number endian 4 8 left) (drop 16 left) (IsBytes-drop 16 left fits))
                 (omega (arith, length-drop (number endian 4 8 left) (drop 16 left), length-drop 16 left)))
           ]
         ]
@@ -155,7 +171,8 @@ record IsGood (format : Format) (bytes : List ℕ) : Type 0 where
   link : number format.endian 4 20 bytes ≡ 1
 
 -- a test that did not fail
-guard_ok : {A : Type 0} (b : Bool) (fault : CaptureFault) (r : Result A CaptureFault) (x : A) → cond b (Err fault) r ≡ Ok x → (b ≡ false) × (r ≡ Ok x)
+guard_ok : {A : Type 0} (b : Bool) (fault : CaptureFault) (r : Result A CaptureFault) (x : A)
+    → cond b (Err fault) r ≡ Ok x → (b ≡ false) × (r ≡ Ok x)
 guard_ok true fault r x e = absurd (cc e)
 guard_ok false fault r x e = (refl, e)
 
@@ -168,16 +185,22 @@ one_true : (a : Bool) → not a ≡ false → a ≡ true
 one_true true e = refl
 one_true false e = absurd (cc e)
 
-magic_by_tests : (a b : Bool) (magic : ℕ) (resolution : Resolution) → eqb magic (magic_of Microseconds) ≡ a → eqb magic (magic_of Nanoseconds) ≡ b
+magic_by_tests : (a b : Bool) (magic : ℕ) (resolution : Resolution) → eqb magic (magic_of Microseconds) ≡ a
+    → eqb magic (magic_of Nanoseconds) ≡ b
     → cond a (Some Microseconds) (cond b (Some Nanoseconds) None) ≡ Some resolution → magic ≡ magic_of resolution
-magic_by_tests true b magic resolution micros nanos e = let same : Microseconds ≡ resolution = cc e in eqb-true _ _ micros ∙ ap magic_of same
-magic_by_tests false true magic resolution micros nanos e = let same : Nanoseconds ≡ resolution = cc e in eqb-true _ _ nanos ∙ ap magic_of same
+magic_by_tests true b magic resolution micros nanos e =
+    let same : Microseconds ≡ resolution = cc e in
+    eqb-true _ _ micros ∙ ap magic_of same
+magic_by_tests false true magic resolution micros nanos e =
+    let same : Nanoseconds ≡ resolution = cc e in
+    eqb-true _ _ nanos ∙ ap magic_of same
 magic_by_tests false false magic resolution micros nanos e = absurd (cc e)
 
 magic_from : (magic : ℕ) (resolution : Resolution) → resolution_of magic ≡ Some resolution → magic ≡ magic_of resolution
 magic_from magic resolution e = magic_by_tests _ _ magic resolution refl refl e
 
-pub either_order-magic : (bytes : List ℕ) (big little : Option Resolution) (format : Format) → resolution_of (number Big 4 0 bytes) ≡ big → resolution_of (number Little 4 0 bytes) ≡ little
+pub either_order-magic : (bytes : List ℕ) (big little : Option Resolution) (format : Format)
+    → resolution_of (number Big 4 0 bytes) ≡ big → resolution_of (number Little 4 0 bytes) ≡ little
     → either_order big little ≡ Some format → number format.endian 4 0 bytes ≡ magic_of format.resolution
 either_order-magic bytes (Some resolution) little format is_big is_little e =
     let same : record { endian = Big; resolution = resolution } ≡ format = cc e in
@@ -189,7 +212,8 @@ either_order-magic bytes None (Some resolution) format is_big is_little e =
     subst P same (magic_from (number Little 4 0 bytes) resolution is_little)
 either_order-magic bytes None None format is_big is_little e = absurd (cc e)
 
-rest_found : (bytes : List ℕ) (named : Option Format) (format : Format) → format_of bytes ≡ named → rest_of_head bytes named ≡ Ok format → IsGood format bytes
+rest_found : (bytes : List ℕ) (named : Option Format) (format : Format) → format_of bytes ≡ named
+    → rest_of_head bytes named ≡ Ok format → IsGood format bytes
 rest_found bytes None format is_named e = absurd (cc e)
 rest_found bytes (Some named) format is_named e =
     let version = guard_ok _ _ _ format e in
@@ -220,7 +244,8 @@ head_at format bytes = record {
   longest = number format.endian 4 16 bytes;
 }
 
-head_bytes-head_at : (format : Format) (bytes : List ℕ) → IsBytes bytes → 24 ≤ length bytes → IsGood format bytes → head_bytes (head_at format bytes) ++ drop 24 bytes ≡ bytes
+head_bytes-head_at : (format : Format) (bytes : List ℕ) → IsBytes bytes → 24 ≤ length bytes → IsGood format bytes
+    → head_bytes (head_at format bytes) ++ drop 24 bytes ≡ bytes
 head_bytes-head_at format bytes fits long good =
     let link = four format.endian 20 bytes (drop 24 bytes) (omega arith) fits refl in
     let longest = four format.endian 16 bytes _ (omega arith) fits link in
@@ -235,7 +260,8 @@ head_bytes-head_at format bytes fits long good =
 pub found : (bytes : List ℕ) (format : Format) → IsBytes bytes → head_of bytes ≡ Ok format → HasSpelling bytes format
 found bytes format fits e =
     let facts = head_found bytes format e in
-    let parts = parts_of (length bytes) format.endian (drop 24 bytes) (IsBytes-drop 24 bytes fits) (omega (arith, length-drop 24 bytes)) in
+    let parts =
+    parts_of (length bytes) format.endian (drop 24 bytes) (IsBytes-drop 24 bytes fits) (omega (arith, length-drop 24 bytes)) in
     let head : List ℕ = head_bytes (head_at format bytes) in
     record {
       head = head_at format bytes;
@@ -243,7 +269,12 @@ found bytes format fits e =
       rest = parts.rest;
       same_format = refl;
       file = record {
-        is_head = record { zone = number-lt format.endian 4 8 bytes fits; accuracy = number-lt format.endian 4 12 bytes fits; longest = number-lt format.endian 4 16 bytes fits };
+        is_head =
+            record {
+              zone = number-lt format.endian 4 8 bytes fits;
+              accuracy = number-lt format.endian 4 12 bytes fits;
+              longest = number-lt format.endian 4 16 bytes fits;
+            };
         are_entries = parts.fits;
         whole =
             sym (head_bytes-head_at format bytes fits facts.0 facts.1)

@@ -8,26 +8,30 @@ use Rattle.ng_pcap.specs.declared.fault.CaptureFault.{CaptureFault}
 use Rattle.ng_pcap.specs.declared.fault.CaptureFault.TheVariants.{ShortHeader, NoMagic, BadVersion, BadLink, TooLong, NoMemory}
 use Rattle.ng_pcap.specs.declared.format.Format.{Format}
 use Rattle.ng_pcap.specs.declared.reader.PacketHead.{PacketHead}
-use Rattle.ng_pcap.specs.Reading.{◌>>=◌, IsUnlessNoMemory, ended, with_packet, packet_head, packets}
+use Rattle.ng_pcap.specs.Reading.{◌>>=◌, IsUnlessNoMemory, no_more_packets, with_packet, packet_head, packets}
 
 -- what was kept before, and what is still read
-abbrev pub with_front : List (Stamp × List ℕ) → Result Capture CaptureFault → Result Capture CaptureFault
-with_front front read = read >>= λ capture. Ok (record { kept = front ++ capture.kept; cut = capture.cut })
+abbrev pub with_prefix : List (Stamp × List ℕ) → Result Capture CaptureFault → Result Capture CaptureFault
+with_prefix prefix read = read >>= λ capture. Ok (record { kept = prefix ++ capture.kept; cut = capture.cut })
 
-with_front-with_packet : (front : List (Stamp × List ℕ)) (packet : Stamp × List ℕ) (behind : Result Capture CaptureFault)
-    → with_front front (with_packet packet behind) ≡ with_front (front ++ packet ∷ []) behind
-with_front-with_packet front packet (Ok capture) = ap (λ (kept : List (Stamp × List ℕ)). Ok (record { kept = kept; cut = capture.cut })) (simp append_assoc)
-with_front-with_packet front packet (Err fault) = refl
+with_prefix-with_packet : (prefix : List (Stamp × List ℕ)) (packet : Stamp × List ℕ) (behind : Result Capture CaptureFault)
+    → with_prefix prefix (with_packet packet behind) ≡ with_prefix (prefix ++ packet ∷ []) behind
+with_prefix-with_packet prefix packet (Ok capture) =
+    ap (λ (kept : List (Stamp × List ℕ)). Ok (record { kept = kept; cut = capture.cut })) (simp append_assoc)
+with_prefix-with_packet prefix packet (Err fault) = refl
 
-pub with_front-nil : (read : Result Capture CaptureFault) → with_front [] read ≡ read
-with_front-nil (Ok capture) = refl
-with_front-nil (Err fault) = refl
+pub with_prefix-nil : (read : Result Capture CaptureFault) → with_prefix [] read ≡ read
+with_prefix-nil (Ok capture) = refl
+with_prefix-nil (Err fault) = refl
 
-pub with_front-ended : (front : List (Stamp × List ℕ)) (cut : Option ℕ) → with_front front (ended cut) ≡ Ok (record { kept = front; cut = cut })
-with_front-ended front cut = ap (λ (kept : List (Stamp × List ℕ)). Ok (record { kept = kept; cut = cut })) (append-nil front)
+pub with_prefix-no_more_packets : (prefix : List (Stamp × List ℕ)) (cut : Option ℕ)
+    → with_prefix prefix (no_more_packets cut) ≡ Ok (record { kept = prefix; cut = cut })
+with_prefix-no_more_packets prefix cut =
+    ap (λ (kept : List (Stamp × List ℕ)). Ok (record { kept = kept; cut = cut })) (append-nil prefix)
 
 -- what a turn does
-pub packets-none : (turns : ℕ) (format : Format) (place : ℕ) (left : List ℕ) → length left ≡ 0 → packets turns format place left ≡ ended None
+pub packets-none : (turns : ℕ) (format : Format) (place : ℕ) (left : List ℕ) → length left ≡ 0
+    → packets turns format place left ≡ no_more_packets None
 unfolding packets
 packets-none zero format place left none = refl
 packets-none (suc turns) format place left none = rw none refl
@@ -35,29 +39,34 @@ packets-none (suc turns) format place left none = rw none refl
 not_none : (left : List ℕ) → 0 < length left → eqb (length left) 0 ≡ false
 not_none left some = ne_eqb (length left) 0 (λ none. omega arith)
 
-pub packets-packet : (turns : ℕ) (format : Format) (place : ℕ) (left : List ℕ) (head : PacketHead) → 0 < length left → packet_head format place left ≡ Ok (Some head)
-    → packets (suc turns) format place left ≡ with_packet (head.stamp, take head.len (drop 16 left)) (packets turns format (place + 16 + head.len) (drop head.len (drop 16 left)))
+pub packets-packet : (turns : ℕ) (format : Format) (place : ℕ) (left : List ℕ) (head : PacketHead) → 0 < length left
+    → packet_head format place left ≡ Ok (Some head)
+    → packets (suc turns) format place left ≡ with_packet (head.stamp, take head.len (drop 16 left))
+    (packets turns format (place + 16 + head.len) (drop head.len (drop 16 left)))
 unfolding packets
 packets-packet turns format place left head some found = rw (not_none left some, found) refl
 
-pub packets-cut : (turns : ℕ) (format : Format) (place : ℕ) (left : List ℕ) → 0 < length left → length left ≤ turns → packet_head format place left ≡ Ok None
-    → packets turns format place left ≡ ended (Some place)
+pub packets-cut : (turns : ℕ) (format : Format) (place : ℕ) (left : List ℕ) → 0 < length left → length left ≤ turns
+    → packet_head format place left ≡ Ok None
+    → packets turns format place left ≡ no_more_packets (Some place)
 unfolding packets
 packets-cut zero format place left some enough cut = absurd (omega arith)
 packets-cut (suc turns) format place left some enough cut = rw (not_none left some, cut) refl
 
-pub packets-fault : (turns : ℕ) (format : Format) (place : ℕ) (left : List ℕ) (fault : CaptureFault) → 0 < length left → length left ≤ turns → packet_head format place left ≡ Err fault
+pub packets-fault : (turns : ℕ) (format : Format) (place : ℕ) (left : List ℕ) (fault : CaptureFault)
+    → 0 < length left → length left ≤ turns → packet_head format place left ≡ Err fault
     → packets turns format place left ≡ Err fault
 unfolding packets
 packets-fault zero format place left fault some enough found = absurd (omega arith)
 packets-fault (suc turns) format place left fault some enough found = rw (not_none left some, found) refl
 
 -- what was kept so far and what is left of a file are what the file's packets are read as
-pub record IsSoFar (format : Format) (bytes : List ℕ) (front : List (Stamp × List ℕ)) (left : List ℕ) : Type 0 where
+pub record IsSoFar (format : Format) (bytes : List ℕ) (prefix : List (Stamp × List ℕ)) (left : List ℕ) : Type 0 where
   pub turns : ℕ
   pub enough : length left ≤ turns
   pub place : length left + 24 ≤ length bytes
-  pub same : with_front front (packets turns format (length bytes - length left) left) ≡ packets (length bytes) format 24 (drop 24 bytes)
+  pub same : with_prefix prefix (packets turns format (length bytes - length left) left)
+      ≡ packets (length bytes) format 24 (drop 24 bytes)
 
 pub begins : (format : Format) (bytes left : List ℕ) → 24 ≤ length bytes → left ≡ drop 24 bytes → IsSoFar format bytes [] left
 begins format bytes left whole is_left =
@@ -67,24 +76,27 @@ begins format bytes left whole is_left =
       turns = length bytes;
       enough = omega arith;
       place = omega arith;
-      same = with_front-nil (packets (length bytes) format (length bytes - length left) left) ∙ rw (place, is_left) refl;
+      same = with_prefix-nil (packets (length bytes) format (length bytes - length left) left) ∙ rw (place, is_left) refl;
     }
 
 -- the place behind a packet
-behind_place : (bytes left behind : List ℕ) (len : ℕ) → length left + 24 ≤ length bytes → 16 + len ≤ length left → behind ≡ drop len (drop 16 left)
+behind_place : (bytes left behind : List ℕ) (len : ℕ) → length left + 24 ≤ length bytes → 16 + len ≤ length left
+    → behind ≡ drop len (drop 16 left)
     → (length behind + 16 + len ≡ length left) × (length bytes - length behind ≡ length bytes - length left + 16 + len)
 behind_place bytes left behind len place whole is_behind =
-    let e : length behind + 16 + len ≡ length left = omega (arith, ap length is_behind, length-drop len (drop 16 left), length-drop 16 left) in
+    let e : length behind + 16 + len ≡ length left =
+    omega (arith, ap length is_behind, length-drop len (drop 16 left), length-drop 16 left) in
     (e, omega arith)
 
-one_more : (format : Format) (bytes left packet behind : List ℕ) (front : List (Stamp × List ℕ)) (head : PacketHead) (turns : ℕ)
+one_more : (format : Format) (bytes left packet behind : List ℕ) (prefix : List (Stamp × List ℕ)) (head : PacketHead) (turns : ℕ)
     → 0 < length left → packet_head format (length bytes - length left) left ≡ Ok (Some head) → 16 + head.len ≤ length left
     → packet ≡ take head.len (drop 16 left) → behind ≡ drop head.len (drop 16 left)
     → length left ≤ turns → length left + 24 ≤ length bytes
-    → with_front front (packets turns format (length bytes - length left) left) ≡ packets (length bytes) format 24 (drop 24 bytes)
-    → IsSoFar format bytes (front ++ (head.stamp, packet) ∷ []) behind
-one_more format bytes left packet behind front head zero some found whole is_packet is_behind enough place same = absurd (omega arith)
-one_more format bytes left packet behind front head (suc turns) some found whole is_packet is_behind enough place same =
+    → with_prefix prefix (packets turns format (length bytes - length left) left) ≡ packets (length bytes) format 24 (drop 24 bytes)
+    → IsSoFar format bytes (prefix ++ (head.stamp, packet) ∷ []) behind
+one_more format bytes left packet behind prefix head zero some found whole is_packet is_behind enough place same =
+    absurd (omega arith)
+one_more format bytes left packet behind prefix head (suc turns) some found whole is_packet is_behind enough place same =
     let at = behind_place bytes left behind head.len place whole is_behind in
     let len = at.0 in
     let turn = packets-packet turns format (length bytes - length left) left head some found in
@@ -92,32 +104,46 @@ one_more format bytes left packet behind front head (suc turns) some found whole
       turns = turns;
       enough = omega arith;
       place = omega arith;
-      same = rw (at.1, is_packet, is_behind) (sym (with_front-with_packet front (head.stamp, take head.len (drop 16 left)) (packets turns format (length bytes - length left + 16 + head.len) (drop head.len (drop 16 left)))) ∙ ap (with_front front) (sym turn) ∙ same);
+      same =
+          rw (at.1, is_packet, is_behind)
+          (sym (with_prefix-with_packet prefix (head.stamp, take head.len (drop 16 left))
+          (packets turns format (length bytes - length left + 16 + head.len) (drop head.len (drop 16 left))))
+          ∙ ap (with_prefix prefix) (sym turn)
+          ∙ same);
     }
 
-pub goes_on : (format : Format) (bytes left packet behind : List ℕ) (front : List (Stamp × List ℕ)) (head : PacketHead)
+pub goes_on : (format : Format) (bytes left packet behind : List ℕ) (prefix : List (Stamp × List ℕ)) (head : PacketHead)
     → 0 < length left → packet_head format (length bytes - length left) left ≡ Ok (Some head) → 16 + head.len ≤ length left
     → packet ≡ take head.len (drop 16 left) → behind ≡ drop head.len (drop 16 left)
-    → IsSoFar format bytes front left → IsSoFar format bytes (front ++ (head.stamp, packet) ∷ []) behind
-goes_on format bytes left packet behind front head some found whole is_packet is_behind so_far =
-    one_more format bytes left packet behind front head so_far.turns some found whole is_packet is_behind so_far.enough so_far.place so_far.same
+    → IsSoFar format bytes prefix left → IsSoFar format bytes (prefix ++ (head.stamp, packet) ∷ []) behind
+goes_on format bytes left packet behind prefix head some found whole is_packet is_behind so_far =
+    one_more format bytes left packet behind prefix head so_far.turns some found whole is_packet is_behind so_far.enough so_far.place so_far.same
 
 -- the three ends
-pub is_whole : (format : Format) (bytes left : List ℕ) (front : List (Stamp × List ℕ)) → length left ≡ 0 → IsSoFar format bytes front left
-    → packets (length bytes) format 24 (drop 24 bytes) ≡ Ok (record { kept = front; cut = None })
-is_whole format bytes left front none so_far =
-    sym so_far.same ∙ ap (with_front front) (packets-none so_far.turns format (length bytes - length left) left none) ∙ with_front-ended front None
+pub is_whole : (format : Format) (bytes left : List ℕ) (prefix : List (Stamp × List ℕ)) → length left ≡ 0
+    → IsSoFar format bytes prefix left
+    → packets (length bytes) format 24 (drop 24 bytes) ≡ Ok (record { kept = prefix; cut = None })
+is_whole format bytes left prefix none so_far =
+    sym so_far.same
+    ∙ ap (with_prefix prefix) (packets-none so_far.turns format (length bytes - length left) left none)
+    ∙ with_prefix-no_more_packets prefix None
 
-pub is_cut : (format : Format) (bytes left : List ℕ) (front : List (Stamp × List ℕ)) → 0 < length left → packet_head format (length bytes - length left) left ≡ Ok None → IsSoFar format bytes front left
-    → packets (length bytes) format 24 (drop 24 bytes) ≡ Ok (record { kept = front; cut = Some (length bytes - length left) })
-is_cut format bytes left front some cut so_far =
+pub is_cut : (format : Format) (bytes left : List ℕ) (prefix : List (Stamp × List ℕ)) → 0 < length left
+    → packet_head format (length bytes - length left) left ≡ Ok None → IsSoFar format bytes prefix left
+    → packets (length bytes) format 24 (drop 24 bytes) ≡ Ok (record { kept = prefix; cut = Some (length bytes - length left) })
+is_cut format bytes left prefix some cut so_far =
     let place : ℕ = length bytes - length left in
-    sym so_far.same ∙ ap (with_front front) (packets-cut so_far.turns format place left some so_far.enough cut) ∙ with_front-ended front (Some place)
+    sym so_far.same
+    ∙ ap (with_prefix prefix) (packets-cut so_far.turns format place left some so_far.enough cut)
+    ∙ with_prefix-no_more_packets prefix (Some place)
 
-pub is_fault : (format : Format) (bytes left : List ℕ) (front : List (Stamp × List ℕ)) (fault : CaptureFault) → 0 < length left → packet_head format (length bytes - length left) left ≡ Err fault → IsSoFar format bytes front left
+pub is_fault : (format : Format) (bytes left : List ℕ) (prefix : List (Stamp × List ℕ)) (fault : CaptureFault)
+    → 0 < length left → packet_head format (length bytes - length left) left ≡ Err fault
+    → IsSoFar format bytes prefix left
     → packets (length bytes) format 24 (drop 24 bytes) ≡ Err fault
-is_fault format bytes left front fault some found so_far =
-    sym so_far.same ∙ ap (with_front front) (packets-fault so_far.turns format (length bytes - length left) left fault some so_far.enough found)
+is_fault format bytes left prefix fault some found so_far =
+    sym so_far.same
+    ∙ ap (with_prefix prefix) (packets-fault so_far.turns format (length bytes - length left) left fault some so_far.enough found)
 
 -- what bytes are read as is answered
 pub IsUnlessNoMemory-same : (read answer : Result Capture CaptureFault) → read ≡ answer → IsUnlessNoMemory read answer

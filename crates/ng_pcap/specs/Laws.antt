@@ -9,7 +9,7 @@ use Rattle.ng_pcap.specs.Format.{number}
 use Rattle.ng_pcap.specs.Heads.{HasNoFault, HasNoMagic, HasNoneOfThese, HasOtherLink, HasOtherVersion, IsShort}
 use Rattle.ng_pcap.specs.Reading.{capture_of, head_of}
 use Rattle.ng_pcap.specs.Spelling.{Head, Entry, HasSpelling, IsCut, IsFile, IsTooLong, kept_of, text_of}
-use Rattle.ng_pcap.specs.Writing.{IsWritable, written}
+use Rattle.ng_pcap.specs.Writing.{IsWritable, written_file}
 
 -- a head and whole packets are read as those packets
 abbrev pub ReadsWhole : Type 0
@@ -51,7 +51,7 @@ pub record HeadFaults (bytes : List ℕ) : Type 0 where
 abbrev pub HeadFaultsAreThese : Type 0
 HeadFaultsAreThese = (bytes : List ℕ) → ((i : ℕ) → slice_index bytes i < 256) → HeadFaults bytes
 
--- want of memory is nothing that bytes are read as
+-- out of memory is nothing that bytes are read as
 abbrev pub IsNeverOutOfMemory : Type 0
 IsNeverOutOfMemory = (bytes : List ℕ) → capture_of bytes ≢ Err NoMemory
 
@@ -59,4 +59,4 @@ IsNeverOutOfMemory = (bytes : List ℕ) → capture_of bytes ≢ Err NoMemory
 abbrev pub ReadsWrittenBack : Type 0
 ReadsWrittenBack =
     (packets : List (Stamp × List ℕ)) →
-    AllByRecursion IsWritable packets → capture_of (written packets) ≡ Ok (record { kept = packets; cut = None })
+    AllByRecursion IsWritable packets → capture_of (written_file packets) ≡ Ok (record { kept = packets; cut = None })

@@ -2,6 +2,7 @@
 use Rattle.std.specs.Prelude.{◌≡◌, ℕ, zero, suc, ◌+◌, ◌==◌, nat_lt, not, ◌&&◌, if◌then◌else◌, List, [], ◌∷◌, length, take, drop, Option, Some, None, Result, Ok, Err, IsOk, ⊤}
 use Rattle.std.specs.Option.{option_map_or}
 use Rattle.ng_base.specs.declared.ids.Stamp.{Stamp}
+use Rattle.ng_base.specs.declared.packet.TheConstants.{MAX_PACKET_LEN}
 use Rattle.ng_pcap.specs.declared.capture.Capture.{Capture}
 use Rattle.ng_pcap.specs.declared.fault.CaptureFault.{CaptureFault}
 use Rattle.ng_pcap.specs.declared.fault.CaptureFault.TheVariants.{ShortHeader, NoMagic, BadVersion, BadLink, TooLong, NoMemory}
@@ -35,13 +36,13 @@ packet_head format place left =
     let len = number format.endian 4 8 left in
     let stamp = stamp_of format.resolution (number format.endian 4 0 left) (number format.endian 4 4 left) in
     if nat_lt (length left) 16 then Ok None
-    else if nat_lt 262_144 len then Err (TooLong place len)
+    else if nat_lt MAX_PACKET_LEN len then Err (TooLong place len)
     else if nat_lt (length left) (16 + len) then Ok None
     else Ok (Some (record { stamp = stamp; len = len }))
 
 -- no packets, and where they are cut
-abbrev pub ended : Option ℕ → Result Capture CaptureFault
-ended cut = Ok (record { kept = []; cut = cut })
+abbrev pub no_more_packets : Option ℕ → Result Capture CaptureFault
+no_more_packets cut = Ok (record { kept = []; cut = cut })
 
 -- a packet, and then what is behind it
 abbrev pub with_packet : Stamp × List ℕ → Result Capture CaptureFault → Result Capture CaptureFault
@@ -50,13 +51,13 @@ with_packet packet behind = behind >>= λ capture. Ok (record { kept = packet �
 -- The packets of what is left of a file from a place on, a packet a turn. A packet takes at least sixteen bytes, so as
 -- many turns as bytes are enough.
 unfoldable pub packets : ℕ → Format → ℕ → List ℕ → Result Capture CaptureFault
-packets zero format place left = ended None
+packets zero format place left = no_more_packets None
 packets (suc turns) format place left =
-    if length left == 0 then ended None
+    if length left == 0 then no_more_packets None
     else packet_head format place left >>= λ found. option_map_or (λ head.
     let text = drop 16 left in
     with_packet (head.stamp, take head.len text) (packets turns format (place + 16 + head.len) (drop head.len text)))
-    found (ended (Some place))
+    found (no_more_packets (Some place))
 
 -- the capture that a file's bytes are, or their first fault
 unfoldable pub capture_of : List ℕ → Result Capture CaptureFault

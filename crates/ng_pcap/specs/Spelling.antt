@@ -2,6 +2,7 @@
 use Rattle.std.specs.Prelude.{◌≡◌, ℕ, ◌+◌, ◌^◌, ◌<◌, ◌≤◌, ◌⊎◌, List, [], ◌++◌, length, map}
 use Rattle.std.specs.List.{flat_map, AllByRecursion}
 use Rattle.ng_base.specs.declared.ids.Stamp.{Stamp}
+use Rattle.ng_base.specs.declared.packet.TheConstants.{MAX_PACKET_LEN}
 use Rattle.ng_pcap.specs.declared.format.Endian.{Endian}
 use Rattle.ng_pcap.specs.declared.format.Resolution.{Resolution}
 use Rattle.ng_pcap.specs.declared.format.Format.{Format}
@@ -65,7 +66,7 @@ pub record IsEntry (entry : Entry) : Type 0 where
   pub seconds : entry.seconds < 2 ^ 32
   pub fraction : entry.fraction < 2 ^ 32
   pub original : entry.original < 2 ^ 32
-  pub packet : length entry.packet ≤ 262_144
+  pub packet : length entry.packet ≤ MAX_PACKET_LEN
 
 -- the bytes are a head, whole packets, and a rest
 pub record IsFile (bytes : List ℕ) (head : Head) (entries : List Entry) (rest : List ℕ) : Type 0 where
@@ -77,11 +78,11 @@ pub record IsFile (bytes : List ℕ) (head : Head) (entries : List Entry) (rest 
 abbrev pub IsCut : Endian → List ℕ → Type 0
 IsCut endian rest =
     (0 < length rest)
-    × ((length rest < 16) ⊎ ((number endian 4 8 rest ≤ 262_144) × (length rest < 16 + number endian 4 8 rest)))
+    × ((length rest < 16) ⊎ ((number endian 4 8 rest ≤ MAX_PACKET_LEN) × (length rest < 16 + number endian 4 8 rest)))
 
 -- what begins with the head of a packet that is too long
 abbrev pub IsTooLong : Endian → List ℕ → Type 0
-IsTooLong endian rest = (16 ≤ length rest) × (262_144 < number endian 4 8 rest)
+IsTooLong endian rest = (16 ≤ length rest) × (MAX_PACKET_LEN < number endian 4 8 rest)
 
 -- the bytes are a file so written, which ends with a packet, is cut, or has a packet that is too long
 pub record HasSpelling (bytes : List ℕ) (format : Format) : Type 0 where

@@ -2,17 +2,18 @@
 use Rattle.std.specs.Prelude.{ℕ, ◌*◌, ◌/◌, ◌%◌, ◌^◌, ◌<◌, ◌≤◌, List, ◌++◌, length}
 use Rattle.std.specs.List.{flat_map}
 use Rattle.ng_base.specs.declared.ids.Stamp.{Stamp}
+use Rattle.ng_base.specs.declared.packet.TheConstants.{MAX_PACKET_LEN}
 use Rattle.ng_pcap.specs.declared.format.Endian.TheVariants.{Little}
 use Rattle.ng_pcap.specs.declared.format.Resolution.TheVariants.{Nanoseconds}
 use Rattle.ng_pcap.specs.Spelling.{Head, Entry, head_bytes, entry_bytes}
 
--- the lowest byte first, nanoseconds, at most 262,144 bytes a packet
+-- the lowest byte first, nanoseconds, packets of at most MAX_PACKET_LEN bytes
 abbrev pub head_to_write : Head
 head_to_write = record {
   format = record { endian = Little; resolution = Nanoseconds };
   zone = 0;
   accuracy = 0;
-  longest = 262_144;
+  longest = MAX_PACKET_LEN;
 }
 
 -- a packet that was kept whole
@@ -31,10 +32,10 @@ abbrev pub written_packet : Stamp → List ℕ → List ℕ
 written_packet stamp packet = entry_bytes Little (entry_to_write stamp packet)
 
 -- the file of these packets
-abbrev pub written : List (Stamp × List ℕ) → List ℕ
-written packets = written_head ++ flat_map (λ packet. written_packet packet.0 packet.1) packets
+abbrev pub written_file : List (Stamp × List ℕ) → List ℕ
+written_file packets = written_head ++ flat_map (λ packet. written_packet packet.0 packet.1) packets
 
 -- below 2^32 seconds, and not too long
 pub record IsWritable (packet : Stamp × List ℕ) : Type 0 where
   pub in_seconds : packet.0.0 < 2 ^ 32 * 1_000_000_000
-  pub in_length : length packet.1 ≤ 262_144
+  pub in_length : length packet.1 ≤ MAX_PACKET_LEN

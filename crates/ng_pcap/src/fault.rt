@@ -21,10 +21,10 @@ pub enum CaptureFault {
     #[error("bad link type {0}")]
     BadLink(u32),
     /// The packet whose head stands at this place, in bytes from the file's start, has so many bytes,
-    /// more than 262,144.
+    /// more than `MAX_PACKET_LEN` of ng_base.
     #[error("packet too long at byte {0}")]
     TooLong(u64, u32),
-    /// Memory was wanted and there was none. The file's head has no fault.
+    /// Out of memory. The file's head has no fault.
     #[error("out of memory")]
     NoMemory,
 }

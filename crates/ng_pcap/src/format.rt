@@ -11,9 +11,6 @@ pub const HEAD_LEN: usize = 24;
 /// The bytes of the head that stands in front of each packet.
 pub const PACKET_HEAD_LEN: usize = 16;
 
-/// The bytes of the longest packet that is taken (MAXIMUM_SNAPLEN of libpcap).
-pub const MAX_PACKET: u32 = 262_144;
-
 /// The link type of Ethernet (LINKTYPE_ETHERNET).
 pub const ETHERNET: u32 = 1;
 
@@ -85,7 +82,7 @@ impl Resolution {
     ghost use Rattle.ng_pcap.specs.Format.{resolution_of, stamp_of};
 
     /// What the magic number says of fractions.
-    fn of_magic(magic: u32) -> Option<Resolution>
+    fn from_magic(magic: u32) -> Option<Resolution>
         ensures { result ≡ resolution_of magic }
     {
         match magic {
@@ -113,16 +110,16 @@ impl Format {
 
     /// How a file is written that begins so. `None` where its first four bytes are no magic number in
     /// either order.
-    pub(crate) fn of_head(head: &[u8]) -> Option<Format>
+    pub(crate) fn from_head(head: &[u8]) -> Option<Format>
         requires { 4 ≤ length head.now }
         ensures { result ≡ format_of head.now }
     {
-        if let Some(resolution) = Resolution::of_magic(Endian::Big.u32_at(head, 0)) {
+        if let Some(resolution) = Resolution::from_magic(Endian::Big.u32_at(head, 0)) {
             let endian = Endian::Big;
             return Some(Format { endian, resolution });
         }
         let endian = Endian::Little;
-        let resolution = Resolution::of_magic(endian.u32_at(head, 0))?;
+        let resolution = Resolution::from_magic(endian.u32_at(head, 0))?;
         Some(Format { endian, resolution })
     }
 }

@@ -33,7 +33,7 @@ pub fn head_faults_are_these()
     ensures { HeadFaultsAreThese }
 {}
 
-/// Want of memory is an answer of this program alone, and nothing that bytes are read as.
+/// Out of memory is an answer of this program alone, and nothing that bytes are read as.
 pub fn no_file_is_out_of_memory()
     ensures { IsNeverOutOfMemory }
 {}

@@ -13,7 +13,7 @@ mod writer;
 
 pub use capture::Capture;
 pub use fault::CaptureFault;
-pub use format::{ETHERNET, HEAD_LEN, MAX_PACKET, NANOS_PER_SECOND, PACKET_HEAD_LEN};
+pub use format::{ETHERNET, HEAD_LEN, NANOS_PER_SECOND, PACKET_HEAD_LEN};
 pub use laws::{
     cut_packet_is_left_out, each_file_is_one_of_these, head_faults_are_these,
     long_packet_is_refused, no_file_is_out_of_memory, whole_packets_are_read,

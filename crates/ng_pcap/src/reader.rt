@@ -3,8 +3,8 @@ ghost use Rattle.std.specs.Prelude.{◌≡◌, ◌≤◌, ◌+◌, length, drop,
 ghost use Rattle.ng_pcap.specs.Reading.{IsAnswer, IsUnlessNoMemory, head_of, packet_head, packets};
 
 use crate::format::{Format, MAJOR, MINOR};
-use crate::{Capture, CaptureFault, ETHERNET, HEAD_LEN, MAX_PACKET, PACKET_HEAD_LEN};
-use ng_base::{Packet, Sequence, Stamp};
+use crate::{Capture, CaptureFault, ETHERNET, HEAD_LEN, PACKET_HEAD_LEN};
+use ng_base::{MAX_PACKET_LEN, Packet, Sequence, Stamp};
 use std::alloc::Global;
 
 /// The head of a packet: when it was seen, and how many of its bytes follow.
@@ -26,8 +26,8 @@ struct PacketHead {
 /// The first of these that holds: `ShortHeader` with the number of bytes where they are fewer than 24,
 /// `NoMagic` where the first four are no magic number in either order, `BadVersion` where the version
 /// isn't 2.4, `BadLink` with the link type where it isn't Ethernet, `TooLong` with the place of the
-/// packet's head and the length that it says, for the first that says more than 262,144; or
-/// `NoMemory` for want of memory alone, where none of the first four holds.
+/// packet's head and the length that it says, for the first that says more than
+/// `MAX_PACKET_LEN`; or `NoMemory` where memory ran out and none of the first four holds.
 pub fn read_capture(alloc: Global, bytes: &[u8]) -> Result<Capture, CaptureFault>
     ensures { IsAnswer bytes.now result }
 {
@@ -44,7 +44,7 @@ fn read_head(bytes: &[u8]) -> Result<Format, CaptureFault>
     if bytes.len() < HEAD_LEN {
         return Err(CaptureFault::ShortHeader(bytes.len() as u64));
     }
-    let format = Format::of_head(bytes).ok_or(CaptureFault::NoMagic)?;
+    let format = Format::from_head(bytes).ok_or(CaptureFault::NoMagic)?;
     let endian = format.endian;
     if endian.u16_at(bytes, 4) != MAJOR || endian.u16_at(bytes, 6) != MINOR {
         return Err(CaptureFault::BadVersion);
@@ -77,7 +77,7 @@ fn read_packets(alloc: Global, format: Format, bytes: &[u8]) -> Result<Capture, 
     Ok(Capture { kept, cut: None })
 }
 
-/// The head of the packet at the front of what is left of a file from `place` on. `None` where the
+/// The head of the packet at the start of what is left of a file from `place` on. `None` where the
 /// file's end cuts the head or the packet.
 #[tactic(auto, unfolding(crate::specs::Reading::packet_head))]
 fn read_packet_head(
@@ -93,7 +93,7 @@ fn read_packet_head(
     }
     let endian = format.endian;
     let len = endian.u32_at(left, 8);
-    if len > MAX_PACKET {
+    if len as usize > MAX_PACKET_LEN {
         return Err(CaptureFault::TooLong(place, len));
     }
     let len = len as usize;

@@ -1,6 +1,5 @@
-// Files that tcpdump and editcap wrote, files that are no captures, and each call that takes memory
-// once.
-use crate::{Capture, CaptureFault, read_capture, write_head, write_packet};
+// Files that tcpdump and editcap wrote, times by hand, and what faults print.
+use crate::{CaptureFault, read_capture, write_head, write_packet};
 use ng_base::{Packet, Stamp};
 use std::alloc::{AllocError, Global};
 use std::process::Abort;
@@ -26,9 +25,6 @@ const BIG_MICROS: [u8; 24] = [
 const BIG_NANOS: [u8; 24] = [
     0xa1, 0xb2, 0x3c, 0x4d, 0, 2, 0, 4, 0xff, 0xff, 0xf1, 0xf0, 0, 0, 0, 9, 0, 0, 0, 3, 0, 0, 0, 1,
 ];
-
-/// A frame without a payload.
-const FRAME: [u8; 14] = [2, 0, 0, 0, 0, 2, 2, 0, 0, 0, 0, 1, 0x88, 0xb5];
 
 /// The address resolution request that the files below begin with.
 const REQUEST: [u8; 42] = [
@@ -87,39 +83,21 @@ fn file(alloc: Global, parts: &[&[u8]]) -> Result<Vec<u8>, AllocError> {
     Ok(bytes)
 }
 
-/// The capture has these packets, with these times, and is cut there.
-fn shows(rt: &impl Abort, capture: &Capture, packets: &[(u64, &[u8])], cut: Option<u64>) {
-    assert_eq!(rt; capture.kept.as_slice().len(), packets.len());
-    for ((stamp, packet), (time, bytes)) in capture.kept.as_slice().iter().zip(packets) {
-        assert_eq!(rt; stamp.0, *time);
-        assert_eq!(rt; packet.bytes(), *bytes);
-    }
-    assert_eq!(rt; capture.cut, cut);
-}
-
-/// The file of these parts is read as these packets.
+/// The file of these parts is read as these packets, with these times, and as cut nowhere.
 fn is_read(
     rt: &impl Abort,
     alloc: Global,
     parts: &[&[u8]],
     packets: &[(u64, &[u8])],
-    cut: Option<u64>,
 ) -> Result<(), Fail> {
     let bytes = file(alloc, parts)?;
     let capture = read_capture(alloc, &bytes)?;
-    shows(rt, &capture, packets, cut);
-    Ok(())
-}
-
-/// The file of these parts is no capture, for this cause.
-fn is_refused(
-    rt: &impl Abort,
-    alloc: Global,
-    parts: &[&[u8]],
-    fault: CaptureFault,
-) -> Result<(), Fail> {
-    let bytes = file(alloc, parts)?;
-    assert_eq!(rt; read_capture(alloc, &bytes).err(), Some(fault));
+    assert_eq!(rt; capture.kept.as_slice().len(), packets.len());
+    for ((stamp, packet), (time, bytes)) in capture.kept.as_slice().iter().zip(packets) {
+        assert_eq!(rt; stamp.0, *time);
+        assert_eq!(rt; packet.bytes(), *bytes);
+    }
+    assert_eq!(rt; capture.cut, None);
     Ok(())
 }
 
@@ -130,10 +108,10 @@ fn files_of_other_programs_are_read(rt: HostRuntime) -> Result<(), Fail> {
         (second + 123_456_000, &REQUEST),
         (second + 1_999_999_000, &ECHO),
     ];
-    is_read(&rt, rt.alloc(), &[&TCPDUMP_MICROS], &micros, None)?;
-    is_read(&rt, rt.alloc(), &[&EDITCAP_NANOS], &micros, None)?;
+    is_read(&rt, rt.alloc(), &[&TCPDUMP_MICROS], &micros)?;
+    is_read(&rt, rt.alloc(), &[&EDITCAP_NANOS], &micros)?;
     let nanos: [(u64, &[u8]); 1] = [(second + 123_456_789, &REQUEST)];
-    is_read(&rt, rt.alloc(), &[&TCPDUMP_NANOS], &nanos, None)
+    is_read(&rt, rt.alloc(), &[&TCPDUMP_NANOS], &nanos)
 }
 
 #[test]
@@ -147,180 +125,28 @@ fn a_file_is_written_as_tcpdump_writes_it(rt: HostRuntime) -> Result<(), Fail> {
     Ok(())
 }
 
-#[test]
-fn heads_that_are_wrong_are_told(rt: HostRuntime) -> Result<(), Fail> {
-    let alloc = rt.alloc();
-    is_refused(&rt, alloc, &[], CaptureFault::ShortHeader(0))?;
-    let short = LITTLE_MICROS.get(..23).unwrap_or(&[]);
-    is_refused(&rt, alloc, &[short], CaptureFault::ShortHeader(23))?;
-    is_refused(&rt, alloc, &[&[0; 24]], CaptureFault::NoMagic)?;
-    let other = [0xa1, 0xb2, 0xc3, 0xd5, 0, 2, 0, 4];
-    is_refused(&rt, alloc, &[&other, &[0; 16]], CaptureFault::NoMagic)?;
-    let version_2_5 = [0xd4, 0xc3, 0xb2, 0xa1, 2, 0, 5, 0];
-    is_refused(
-        &rt,
-        alloc,
-        &[&version_2_5, &[0; 16]],
-        CaptureFault::BadVersion,
-    )?;
-    let version_4_2 = [0xd4, 0xc3, 0xb2, 0xa1, 4, 0, 2, 0];
-    is_refused(
-        &rt,
-        alloc,
-        &[&version_4_2, &[0; 16]],
-        CaptureFault::BadVersion,
-    )?;
-    let front = [0xd4, 0xc3, 0xb2, 0xa1, 2, 0, 4, 0];
-    let link_101 = [101, 0, 0, 0];
-    is_refused(
-        &rt,
-        alloc,
-        &[&front, &[0; 12], &link_101],
-        CaptureFault::BadLink(101),
-    )?;
-    let front = [0xa1, 0xb2, 0xc3, 0xd4, 0, 2, 0, 4];
-    let link_2_to_24 = [1, 0, 0, 0];
-    is_refused(
-        &rt,
-        alloc,
-        &[&front, &[0; 12], &link_2_to_24],
-        CaptureFault::BadLink(16_777_216),
-    )
-}
-
-#[test]
-fn lengths_are_held_against_the_limit(rt: HostRuntime) -> Result<(), Fail> {
-    let alloc = rt.alloc();
-    let longest = [0, 0, 0, 0, 0, 0, 0, 0, 0xff, 0xff, 0xff, 0xff, 0, 0, 0, 0];
-    is_refused(
-        &rt,
-        alloc,
-        &[&LITTLE_MICROS, &longest],
-        CaptureFault::TooLong(24, 4_294_967_295),
-    )?;
-    let one_more = [0, 0, 0, 0, 0, 0, 0, 0, 0, 4, 0, 1, 0, 0, 0, 0];
-    is_refused(
-        &rt,
-        alloc,
-        &[&BIG_MICROS, &one_more, &longest],
-        CaptureFault::TooLong(24, 262_145),
-    )?;
-    let none = [0, 0, 0, 0, 0, 0, 0, 0, 0, 0, 0, 0, 0, 0, 0, 7];
-    is_refused(
-        &rt,
-        alloc,
-        &[&BIG_MICROS, &none, &longest],
-        CaptureFault::TooLong(40, 4_294_967_295),
-    )?;
-    is_read(
-        &rt,
-        alloc,
-        &[&BIG_MICROS, &none, &none],
-        &[(0, &[]), (0, &[])],
-        None,
-    )?;
-    let limit = [0, 0, 0, 0, 0, 0, 0, 0, 0, 4, 0, 0, 0, 0, 0, 0];
-    is_read(
-        &rt,
-        alloc,
-        &[&BIG_MICROS, &none, &limit],
-        &[(0, &[])],
-        Some(40),
-    )
-}
-
-#[test]
-fn the_end_cuts_a_packet(rt: HostRuntime) -> Result<(), Fail> {
-    let alloc = rt.alloc();
-    let head = [9, 0, 0, 0, 8, 0, 0, 0, 14, 0, 0, 0, 14, 0, 0, 0];
-    let frame: [(u64, &[u8]); 1] = [(9_000_000_008, &FRAME)];
-    is_read(&rt, alloc, &[&LITTLE_NANOS], &[], None)?;
-    is_read(&rt, alloc, &[&LITTLE_NANOS, &head, &FRAME], &frame, None)?;
-    is_read(
-        &rt,
-        alloc,
-        &[&LITTLE_NANOS, &head, &FRAME, &[7; 10]],
-        &frame,
-        Some(54),
-    )?;
-    is_read(
-        &rt,
-        alloc,
-        &[&LITTLE_NANOS, &head, &FRAME, &[255; 15]],
-        &frame,
-        Some(54),
-    )?;
-    is_read(
-        &rt,
-        alloc,
-        &[&LITTLE_NANOS, &head, &FRAME, &head, &[7; 13]],
-        &frame,
-        Some(54),
-    )?;
-    is_read(&rt, alloc, &[&LITTLE_NANOS, &head], &[], Some(24))
+/// A packet of no bytes, whose head has these seconds and this fraction, is of this time.
+fn is_timed(
+    rt: &impl Abort,
+    alloc: Global,
+    head: &[u8],
+    time: &[u8],
+    stamp: u64,
+) -> Result<(), Fail> {
+    is_read(rt, alloc, &[head, time, &[0; 8]], &[(stamp, &[])])
 }
 
 #[test]
 fn times_are_read_in_both_orders_and_units(rt: HostRuntime) -> Result<(), Fail> {
     let alloc = rt.alloc();
-    let little = [1, 0, 0, 0, 0xff, 0xff, 0xff, 0xff, 0, 0, 0, 0, 0, 0, 0, 0];
-    is_read(
-        &rt,
-        alloc,
-        &[&LITTLE_MICROS, &little],
-        &[(1_999_999_000, &[])],
-        None,
-    )?;
-    is_read(
-        &rt,
-        alloc,
-        &[&LITTLE_NANOS, &little],
-        &[(1_999_999_999, &[])],
-        None,
-    )?;
-    let big = [0, 0, 0, 1, 0, 15, 66, 64, 0, 0, 0, 0, 0, 0, 0, 0];
-    is_read(
-        &rt,
-        alloc,
-        &[&BIG_MICROS, &big],
-        &[(1_999_999_000, &[])],
-        None,
-    )?;
-    is_read(
-        &rt,
-        alloc,
-        &[&BIG_NANOS, &big],
-        &[(1_001_000_000, &[])],
-        None,
-    )?;
-    let last = [0xff, 0xff, 0xff, 0xff, 0, 0, 0, 2, 0, 0, 0, 0, 0, 0, 0, 0];
-    is_read(
-        &rt,
-        alloc,
-        &[&BIG_NANOS, &last],
-        &[(4_294_967_295_000_000_002, &[])],
-        None,
-    )
-}
-
-#[test]
-fn what_is_written_is_read(rt: HostRuntime) -> Result<(), Fail> {
-    let rows: [(u64, &[u8]); 4] = [
-        (4_294_967_295_999_999_999, &FRAME),
-        (0, &[]),
-        (1_000_000_000, &ECHO),
-        (999_999_999, &REQUEST),
-    ];
-    let mut out = Vec::new(rt.alloc());
-    write_head(rt.alloc(), &mut out)?;
-    for (time, bytes) in rows {
-        let packet = Packet::new(rt.alloc(), bytes)?;
-        if time < 4_294_967_296_000_000_000 && packet.bytes().len() <= 262_144 {
-            write_packet(rt.alloc(), &mut out, Stamp(time), &packet)?;
-        }
-    }
-    shows(&rt, &read_capture(rt.alloc(), &out)?, &rows, None);
-    Ok(())
+    let little = [1, 0, 0, 0, 0xff, 0xff, 0xff, 0xff];
+    is_timed(&rt, alloc, &LITTLE_MICROS, &little, 1_999_999_000)?;
+    is_timed(&rt, alloc, &LITTLE_NANOS, &little, 1_999_999_999)?;
+    let big = [0, 0, 0, 1, 0, 15, 66, 64];
+    is_timed(&rt, alloc, &BIG_MICROS, &big, 1_999_999_000)?;
+    is_timed(&rt, alloc, &BIG_NANOS, &big, 1_001_000_000)?;
+    let last = [0xff, 0xff, 0xff, 0xff, 0, 0, 0, 2];
+    is_timed(&rt, alloc, &BIG_NANOS, &last, 4_294_967_295_000_000_002)
 }
 
 #[test]

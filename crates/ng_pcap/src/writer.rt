@@ -4,16 +4,16 @@ ghost use Rattle.ng_pcap.specs.Writing.{written_head, written_packet};
 ghost use Rattle.byteorder.specs.Endian.{little_bytes};
 
 use crate::format::{MAJOR, MINOR, NANOSECOND_MAGIC};
-use crate::{ETHERNET, HEAD_LEN, MAX_PACKET, NANOS_PER_SECOND, PACKET_HEAD_LEN};
+use crate::{ETHERNET, HEAD_LEN, NANOS_PER_SECOND, PACKET_HEAD_LEN};
 use byteorder::{ByteOrder, LittleEndian};
-use ng_base::{NoMemory, Packet, Stamp};
+use ng_base::{MAX_PACKET_LEN, NoMemory, Packet, Stamp};
 use std::alloc::Global;
 
 /// Appends a file's head, 24 bytes: version 2.4, Ethernet, nanoseconds, numbers with the lowest byte
 /// first. `out` grows by its own allocator, and nothing else takes memory.
 ///
 /// # Errors
-/// `NoMemory` for want of memory alone, where `out` had no room left; `out` is then as before.
+/// `NoMemory` where memory ran out, and only where `out` had no room left; `out` is then as before.
 pub fn write_head(_alloc: Global, out: &mut Vec<u8>) -> Result<(), NoMemory>
     ensures ok { OnOk result (out.new.items ≡ out.old.items ++ written_head) }
     ensures err { OnErr result (out.new.items ≡ out.old.items) }
@@ -26,10 +26,10 @@ pub fn write_head(_alloc: Global, out: &mut Vec<u8>) -> Result<(), NoMemory>
 /// Appends a packet: 16 bytes that say when it was seen and how long it is, and its bytes. `out` grows
 /// by its own allocator, and nothing else takes memory.
 ///
-/// The time lies below 2^32 seconds, and the packet has at most 262,144 bytes.
+/// The time lies below 2^32 seconds, and the packet has at most `MAX_PACKET_LEN` bytes.
 ///
 /// # Errors
-/// `NoMemory` for want of memory alone, where `out` had no room left; `out` is then as before.
+/// `NoMemory` where memory ran out, and only where `out` had no room left; `out` is then as before.
 pub fn write_packet(
     _alloc: Global,
     out: &mut Vec<u8>,
@@ -37,7 +37,7 @@ pub fn write_packet(
     packet: &Packet,
 ) -> Result<(), NoMemory>
     requires stamp { stamp.0 < 2 ^ 32 * NANOS_PER_SECOND }
-    requires packet { length packet.now ≤ MAX_PACKET }
+    requires packet { length packet.now ≤ MAX_PACKET_LEN }
     ensures ok { OnOk result (out.new.items ≡ out.old.items ++ written_packet stamp packet.now) }
     ensures err { OnErr result (out.new.items ≡ out.old.items) }
     ensures no_room { OnErr result (vec_capacity out.old < vec_len out.old + PACKET_HEAD_LEN + length packet.now) }
@@ -57,7 +57,7 @@ fn file_head() -> [u8; HEAD_LEN]
     LittleEndian::write_u32(&mut head, NANOSECOND_MAGIC);
     LittleEndian::write_u16(&mut head[4..], MAJOR);
     LittleEndian::write_u16(&mut head[6..], MINOR);
-    LittleEndian::write_u32(&mut head[16..], MAX_PACKET);
+    LittleEndian::write_u32(&mut head[16..], MAX_PACKET_LEN as u32);
     LittleEndian::write_u32(&mut head[20..], ETHERNET);
     head
 }

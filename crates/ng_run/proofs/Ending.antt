@@ -30,7 +30,7 @@ use Rattle.ng_run.specs.declared.ended.Which.TheVariants.{Sink, Script as OfScri
 use Rattle.ng_run.specs.Inputs.{inputs_of, given_of, start, budget, world_of, text_at, run_text}
 use Rattle.ngctl_words.specs.declared.fault.ScriptFault.TheVariants.{Unbuilt}
 use Rattle.ng_outside.specs.Count.{Rose}
-use Rattle.ng_run.specs.Ends.{Heard, Silent, most_script, PrintEnds, IsPlainRun, IsOrderlyRun, EndsRun, EndsOn, Ends, EndsBy}
+use Rattle.ng_run.specs.Ends.{SinkChange, Silent, most_script, PrintEnds, IsPlainRun, IsOrderlyRun, EndsRun, EndsOn, Ends, EndsBy}
 
 -- A script asks for what is built
 
@@ -105,7 +105,7 @@ text_is script w stopped told totals fed of t u f o =
 
 -- The run
 
-module _ (messages : Messages) (kinds : List Kind) (script : List Command) (sink : Heard) (status : ℕ) (journal : List Event) where
+module _ (messages : Messages) (kinds : List Kind) (script : List Command) (sink : SinkChange) (status : ℕ) (journal : List Event) where
   pub run_ends : (fault : Option Fault) (inputs : List Input) (w0 w : World) (stopped : Bool)
       → inputs ≡ inputs_of script → w0 ≡ start kinds → IsPlain w0 (given inputs messages) budget journal → w ≡ run (given inputs messages) w0 journal → stopped ≡ ends_stopped journal
       → PrintEnds (text_at script w stopped) stopped sink status fault → EndsRun messages kinds script sink status journal fault
@@ -129,7 +129,7 @@ run_cut_short messages kinds script journal inputs w0 i s orderly = rw (← s, �
 
 -- The call
 
-pub call_ends : (messages : Messages) (kinds : List Kind) (bytes : List ℕ) (script : List Command) (rose : Type 0) (sink : Heard) (status : ℕ) (journal : List Event) (fault : Option Fault)
+pub call_ends : (messages : Messages) (kinds : List Kind) (bytes : List ℕ) (script : List Command) (rose : Type 0) (sink : SinkChange) (status : ℕ) (journal : List Event) (fault : Option Fault)
     → length bytes ≤ most_script → IsScript bytes script → EndsRun messages kinds script sink status journal fault → EndsOn messages kinds bytes rose sink status journal fault
 call_ends messages kinds bytes script rose sink status journal None fits read (s, plain, text) = record { status_is = s; ran = record { fits = fits; script = script; read = read; plain = plain }; text = text }
 call_ends messages kinds bytes script rose sink status journal (Some (WriteFault Sink)) fits read (s, plain, front, cause) = record { status_is = s; ran = record { fits = fits; script = script; read = read; plain = plain }; front = front; cause = cause }
@@ -160,7 +160,7 @@ as_read (Some held) bytes is = sym is
 
 -- A call whose words name a script
 
-module _ (messages : Messages) (kinds : List Kind) (named : Option (List ℕ)) (name : List ℕ) (is : named ≡ Some name) (held : List ℕ → Option (List ℕ)) (before after : List ℕ → ℕ) (sink : Heard) where
+module _ (messages : Messages) (kinds : List Kind) (named : Option (List ℕ)) (name : List ℕ) (is : named ≡ Some name) (held : List ℕ → Option (List ℕ)) (before after : List ℕ → ℕ) (sink : SinkChange) where
   pub named_ends : (status : ℕ) (journal : List Event) (fault : Option Fault) → Ends messages kinds (held name) (Rose (before name) (after name)) sink status journal fault → EndsBy messages kinds named held before after sink status journal fault
   named_ends status journal fault e = rw is e
 

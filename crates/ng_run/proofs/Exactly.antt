@@ -10,16 +10,16 @@ use Rattle.ng_core.specs.Going.{Messages}
 use Rattle.ngctl_words.specs.declared.fault.ScriptFault.TheVariants.{Unbuilt, NoMemory as NoMemoryForScript}
 use Rattle.ngctl_words.specs.Script.{IsScript, IsUnbuilt}
 use Rattle.ng_outside.specs.Count.{Rose}
-use Rattle.ng_outside.specs.Write.{AppendsFront}
+use Rattle.ng_outside.specs.Write.{AppendsPrefix}
 use Rattle.ng_run.specs.declared.ended.Fault.{Fault}
 use Rattle.ng_run.specs.declared.ended.Fault.TheVariants.{Usage, Script, TooBig, ReadFault, WriteFault, NoMemory}
 use Rattle.ng_run.specs.declared.ended.Which.TheVariants.{Sink, Script as OfScript}
 use Rattle.ng_run.specs.Inputs.{given_of, start, budget, run_text}
-use Rattle.ng_run.specs.Ends.{Heard, EndsOn, Ends, EndsBy, RunsAs, Comes, status_of, most_script}
+use Rattle.ng_run.specs.Ends.{SinkChange, EndsOn, Ends, EndsBy, RunsAs, Comes, status_of, most_script}
 
 -- The status
 
-status_on : (messages : Messages) (kinds : List Kind) (bytes : List ℕ) (rose : Type 0) (sink : Heard) (status : ℕ) (journal : List Event) (fault : Option Fault) → EndsOn messages kinds bytes rose sink status journal fault → status ≡ status_of fault journal
+status_on : (messages : Messages) (kinds : List Kind) (bytes : List ℕ) (rose : Type 0) (sink : SinkChange) (status : ℕ) (journal : List Event) (fault : Option Fault) → EndsOn messages kinds bytes rose sink status journal fault → status ≡ status_of fault journal
 status_on messages kinds bytes rose sink status journal None e = e.status_is
 status_on messages kinds bytes rose sink status journal (Some Usage) e = absurd e
 status_on messages kinds bytes rose sink status journal (Some (Script (Unbuilt line))) e = e.status_is
@@ -32,7 +32,7 @@ status_on messages kinds bytes rose sink status journal (Some (WriteFault Sink))
 status_on messages kinds bytes rose sink status journal (Some (WriteFault OfScript)) e = absurd e
 status_on messages kinds bytes rose sink status journal (Some NoMemory) e = e.status_is
 
-module _ (messages : Messages) (kinds : List Kind) (held : List ℕ → Option (List ℕ)) (before after : List ℕ → ℕ) (sink : Heard) (status : ℕ) (journal : List Event) where
+module _ (messages : Messages) (kinds : List Kind) (held : List ℕ → Option (List ℕ)) (before after : List ℕ → ℕ) (sink : SinkChange) (status : ℕ) (journal : List Event) where
   pub status_exactly : (named : Option (List ℕ)) (fault : Option Fault) → EndsBy messages kinds named held before after sink status journal fault → status ≡ status_of fault journal
   status_exactly None fault e = rw e.fault_is e.status_is
   status_exactly (Some name) fault e = status_on messages kinds e.bytes _ sink status journal fault e.ends
@@ -107,7 +107,7 @@ module _ (messages : Messages) (kinds : List Kind) (held : List ℕ → Option (
     script_runs one bytes script rose (Some (ReadFault Sink)) e small read = absurd e
     script_runs one bytes script rose (Some (WriteFault Sink)) e small read =
         let is : e.ran.script ≡ script = one bytes e.ran.script script e.ran.read read in
-        (subst (λ (s : List Command). IsPlain (start kinds) (given_of messages s) budget journal) is e.ran.plain, subst (λ (s : List Command). AppendsFront sink.old sink.now (run_text messages kinds s journal)) is e.front, e.cause)
+        (subst (λ (s : List Command). IsPlain (start kinds) (given_of messages s) budget journal) is e.ran.plain, subst (λ (s : List Command). AppendsPrefix sink.old sink.now (run_text messages kinds s journal)) is e.front, e.cause)
     script_runs one bytes script rose (Some (WriteFault OfScript)) e small read = absurd e
     script_runs one bytes script rose (Some NoMemory) e small read = elim (e.so_far) [
       | inl refused ↦ inl refused

@@ -11,7 +11,7 @@ use Rattle.ng_core.specs.Going.{Messages, ends_stopped}
 use Rattle.ngctl_words.specs.declared.fault.ScriptFault.TheVariants.{Unbuilt, NoMemory as NoMemoryForScript}
 use Rattle.ngctl_words.specs.Script.{IsScript, IsUnbuilt}
 use Rattle.ng_outside.specs.Count.{Rose}
-use Rattle.ng_outside.specs.Write.{AppendsFront}
+use Rattle.ng_outside.specs.Write.{AppendsPrefix}
 use Rattle.ng_run.specs.declared.ended.Fault.{Fault}
 use Rattle.ng_run.specs.declared.ended.Fault.TheVariants.{Usage, Script, TooBig, ReadFault, WriteFault, NoMemory}
 use Rattle.ng_run.specs.declared.ended.Which.TheVariants.{Sink, Script as OfScript}
@@ -22,18 +22,18 @@ abbrev pub most_script : ℕ
 most_script = 1048576
 
 -- what a sink held before and after the call, and its count of faults before and after
-pub record Heard : Type 0 where
+pub record SinkChange : Type 0 where
   pub old : Option (List ℕ)
   pub now : Option (List ℕ)
   pub before : ℕ
   pub after : ℕ
 
 -- nothing was written
-abbrev pub Silent : Heard → Type 0
+abbrev pub Silent : SinkChange → Type 0
 Silent sink = sink.now ≡ sink.old
 
 -- the call was refused before the run: no event, and nothing written
-pub record IsRefused (sink : Heard) (journal : List Event) : Type 0 where
+pub record IsRefused (sink : SinkChange) (journal : List Event) : Type 0 where
   pub eventless : journal ≡ []
   pub silent : Silent sink
 
@@ -46,53 +46,53 @@ pub record IsRun (messages : Messages) (kinds : List Kind) (bytes : List ℕ) (j
 
 -- where memory was wanting in the run or later: the journal is orderly as far as it goes, and what was written is
 -- nothing, or a front of the text of the whole journal
-pub record IsCutShort (messages : Messages) (kinds : List Kind) (bytes : List ℕ) (sink : Heard) (journal : List Event) : Type 0 where
+pub record IsCutShort (messages : Messages) (kinds : List Kind) (bytes : List ℕ) (sink : SinkChange) (journal : List Event) : Type 0 where
   pub script : List Command
   pub read : IsScript bytes script
   pub orderly : IsOrderly (start kinds) (given_of messages script) budget 1 journal
-  pub written : Silent sink ⊎ (IsPlain (start kinds) (given_of messages script) budget journal × AppendsFront sink.old sink.now (run_text messages kinds script journal))
+  pub written : Silent sink ⊎ (IsPlain (start kinds) (given_of messages script) budget journal × AppendsPrefix sink.old sink.now (run_text messages kinds script journal))
 
 -- 0, or 2 where the run stopped at its limit
 abbrev pub run_status : List Event → ℕ
 run_status journal = if ends_stopped journal then 2 else 0
 
 -- all of the text was written
-pub record IsWritten (messages : Messages) (kinds : List Kind) (bytes : List ℕ) (sink : Heard) (status : ℕ) (journal : List Event) : Type 0 where
+pub record IsWritten (messages : Messages) (kinds : List Kind) (bytes : List ℕ) (sink : SinkChange) (status : ℕ) (journal : List Event) : Type 0 where
   pub status_is : status ≡ run_status journal
   pub ran : IsRun messages kinds bytes journal
   pub text : Appends sink.old sink.now (run_text messages kinds ran.script journal)
 
 -- a write failed: a front of the text was written, and the sink's count of faults rose
-pub record IsHalfWritten (messages : Messages) (kinds : List Kind) (bytes : List ℕ) (sink : Heard) (status : ℕ) (journal : List Event) : Type 0 where
+pub record IsHalfWritten (messages : Messages) (kinds : List Kind) (bytes : List ℕ) (sink : SinkChange) (status : ℕ) (journal : List Event) : Type 0 where
   pub status_is : status ≡ 74
   pub ran : IsRun messages kinds bytes journal
-  pub front : AppendsFront sink.old sink.now (run_text messages kinds ran.script journal)
+  pub front : AppendsPrefix sink.old sink.now (run_text messages kinds ran.script journal)
   pub cause : Rose sink.before sink.after
 
 -- the first line that isn't of the form
-pub record IsUnread (bytes : List ℕ) (line : ℕ) (sink : Heard) (status : ℕ) (journal : List Event) : Type 0 where
+pub record IsUnread (bytes : List ℕ) (line : ℕ) (sink : SinkChange) (status : ℕ) (journal : List Event) : Type 0 where
   pub status_is : status ≡ 65
   pub refused : IsRefused sink journal
   pub fits : length bytes ≤ most_script
   pub first : IsUnbuilt bytes line
 
-pub record IsTooBig (bytes : List ℕ) (sink : Heard) (status : ℕ) (journal : List Event) : Type 0 where
+pub record IsTooBig (bytes : List ℕ) (sink : SinkChange) (status : ℕ) (journal : List Event) : Type 0 where
   pub status_is : status ≡ 65
   pub refused : IsRefused sink journal
   pub more : most_script < length bytes
 
-pub record IsUnreadable (rose : Type 0) (sink : Heard) (status : ℕ) (journal : List Event) : Type 0 where
+pub record IsUnreadable (rose : Type 0) (sink : SinkChange) (status : ℕ) (journal : List Event) : Type 0 where
   pub status_is : status ≡ 66
   pub refused : IsRefused sink journal
   pub cause : rose
 
 -- want of memory has no cause but itself
-pub record IsOutOfMemory (messages : Messages) (kinds : List Kind) (bytes : List ℕ) (sink : Heard) (status : ℕ) (journal : List Event) : Type 0 where
+pub record IsOutOfMemory (messages : Messages) (kinds : List Kind) (bytes : List ℕ) (sink : SinkChange) (status : ℕ) (journal : List Event) : Type 0 where
   pub status_is : status ≡ 71
   pub so_far : IsRefused sink journal ⊎ IsCutShort messages kinds bytes sink journal
 
 -- the ends of a call whose words name a script of these bytes; `rose` says that the count of faults of its file rose
-abbrev pub EndsOn : Messages → List Kind → List ℕ → Type 0 → Heard → ℕ → List Event → Option Fault → Type 0
+abbrev pub EndsOn : Messages → List Kind → List ℕ → Type 0 → SinkChange → ℕ → List Event → Option Fault → Type 0
 EndsOn messages kinds bytes rose sink status journal None = IsWritten messages kinds bytes sink status journal
 EndsOn messages kinds bytes rose sink status journal (Some Usage) = ⊥
 EndsOn messages kinds bytes rose sink status journal (Some (Script (Unbuilt line))) = IsUnread bytes line sink status journal
@@ -106,19 +106,19 @@ EndsOn messages kinds bytes rose sink status journal (Some (WriteFault OfScript)
 EndsOn messages kinds bytes rose sink status journal (Some NoMemory) = IsOutOfMemory messages kinds bytes sink status journal
 
 -- the same where the file may tell nothing of what it holds: it has some bytes, and those that it tells
-pub record Ends (messages : Messages) (kinds : List Kind) (told : Option (List ℕ)) (rose : Type 0) (sink : Heard) (status : ℕ) (journal : List Event) (fault : Option Fault) : Type 0 where
+pub record Ends (messages : Messages) (kinds : List Kind) (told : Option (List ℕ)) (rose : Type 0) (sink : SinkChange) (status : ℕ) (journal : List Event) (fault : Option Fault) : Type 0 where
   pub bytes : List ℕ
   pub as_told : IfSome told (λ held. held ≡ bytes)
   pub ends : EndsOn messages kinds bytes rose sink status journal fault
 
 -- the words are not one name of a script
-pub record IsUsage (sink : Heard) (status : ℕ) (journal : List Event) (fault : Option Fault) : Type 0 where
+pub record IsUsage (sink : SinkChange) (status : ℕ) (journal : List Event) (fault : Option Fault) : Type 0 where
   pub fault_is : fault ≡ Some Usage
   pub status_is : status ≡ 64
   pub refused : IsRefused sink journal
 
 -- the ends of a call, by the name that its words give
-abbrev pub EndsBy : Messages → List Kind → Option (List ℕ) → (List ℕ → Option (List ℕ)) → (List ℕ → ℕ) → (List ℕ → ℕ) → Heard → ℕ → List Event → Option Fault → Type 0
+abbrev pub EndsBy : Messages → List Kind → Option (List ℕ) → (List ℕ → Option (List ℕ)) → (List ℕ → ℕ) → (List ℕ → ℕ) → SinkChange → ℕ → List Event → Option Fault → Type 0
 EndsBy messages kinds None held before after sink status journal fault = IsUsage sink status journal fault
 EndsBy messages kinds (Some name) held before after sink status journal fault = Ends messages kinds (held name) (Rose (before name) (after name)) sink status journal fault
 
@@ -139,9 +139,9 @@ Comes fault due = (fault ≡ Some due) ⊎ ((fault ≡ Some (ReadFault OfScript)
 
 -- a script in form runs: all of the text of its plain journal is written, or a front of it where a write fails,
 -- unless the read of the script failed or memory was wanting
-abbrev pub RunsAs : Messages → List Kind → List Command → Heard → ℕ → List Event → Option Fault → Type 0
+abbrev pub RunsAs : Messages → List Kind → List Command → SinkChange → ℕ → List Event → Option Fault → Type 0
 RunsAs messages kinds script sink status journal None = IsPlain (start kinds) (given_of messages script) budget journal × Appends sink.old sink.now (run_text messages kinds script journal)
-RunsAs messages kinds script sink status journal (Some (WriteFault which)) = IsPlain (start kinds) (given_of messages script) budget journal × AppendsFront sink.old sink.now (run_text messages kinds script journal) × Rose sink.before sink.after
+RunsAs messages kinds script sink status journal (Some (WriteFault which)) = IsPlain (start kinds) (given_of messages script) budget journal × AppendsPrefix sink.old sink.now (run_text messages kinds script journal) × Rose sink.before sink.after
 RunsAs messages kinds script sink status journal (Some (ReadFault which)) = IsRefused sink journal
 RunsAs messages kinds script sink status journal (Some NoMemory) = IsRefused sink journal ⊎ IsOrderly (start kinds) (given_of messages script) budget 1 journal
 RunsAs messages kinds script sink status journal (Some Usage) = ⊥
@@ -151,11 +151,11 @@ RunsAs messages kinds script sink status journal (Some (TooBig which)) = ⊥
 -- The ends of the parts of a call
 
 -- of printing a text
-abbrev pub PrintEnds : List ℕ → Bool → Heard → ℕ → Option Fault → Type 0
+abbrev pub PrintEnds : List ℕ → Bool → SinkChange → ℕ → Option Fault → Type 0
 PrintEnds text stopped sink status None = (status ≡ (if stopped then 2 else 0)) × Appends sink.old sink.now text
-PrintEnds text stopped sink status (Some (WriteFault Sink)) = (status ≡ 74) × AppendsFront sink.old sink.now text × Rose sink.before sink.after
+PrintEnds text stopped sink status (Some (WriteFault Sink)) = (status ≡ 74) × AppendsPrefix sink.old sink.now text × Rose sink.before sink.after
 PrintEnds text stopped sink status (Some (WriteFault OfScript)) = ⊥
-PrintEnds text stopped sink status (Some NoMemory) = (status ≡ 71) × AppendsFront sink.old sink.now text
+PrintEnds text stopped sink status (Some NoMemory) = (status ≡ 71) × AppendsPrefix sink.old sink.now text
 PrintEnds text stopped sink status (Some Usage) = ⊥
 PrintEnds text stopped sink status (Some (Script fault)) = ⊥
 PrintEnds text stopped sink status (Some (TooBig which)) = ⊥
@@ -168,11 +168,11 @@ abbrev pub IsOrderlyRun : Messages → List Kind → List Command → List Event
 IsOrderlyRun messages kinds script journal = IsOrderly (start kinds) (given_of messages script) budget 1 journal
 
 -- of running a script that was read
-abbrev pub EndsRun : Messages → List Kind → List Command → Heard → ℕ → List Event → Option Fault → Type 0
+abbrev pub EndsRun : Messages → List Kind → List Command → SinkChange → ℕ → List Event → Option Fault → Type 0
 EndsRun messages kinds script sink status journal None = (status ≡ run_status journal) × IsPlainRun messages kinds script journal × Appends sink.old sink.now (run_text messages kinds script journal)
-EndsRun messages kinds script sink status journal (Some (WriteFault Sink)) = (status ≡ 74) × IsPlainRun messages kinds script journal × AppendsFront sink.old sink.now (run_text messages kinds script journal) × Rose sink.before sink.after
+EndsRun messages kinds script sink status journal (Some (WriteFault Sink)) = (status ≡ 74) × IsPlainRun messages kinds script journal × AppendsPrefix sink.old sink.now (run_text messages kinds script journal) × Rose sink.before sink.after
 EndsRun messages kinds script sink status journal (Some (WriteFault OfScript)) = ⊥
-EndsRun messages kinds script sink status journal (Some NoMemory) = (status ≡ 71) × IsOrderlyRun messages kinds script journal × (Silent sink ⊎ (IsPlainRun messages kinds script journal × AppendsFront sink.old sink.now (run_text messages kinds script journal)))
+EndsRun messages kinds script sink status journal (Some NoMemory) = (status ≡ 71) × IsOrderlyRun messages kinds script journal × (Silent sink ⊎ (IsPlainRun messages kinds script journal × AppendsPrefix sink.old sink.now (run_text messages kinds script journal)))
 EndsRun messages kinds script sink status journal (Some Usage) = ⊥
 EndsRun messages kinds script sink status journal (Some (Script fault)) = ⊥
 EndsRun messages kinds script sink status journal (Some (TooBig which)) = ⊥

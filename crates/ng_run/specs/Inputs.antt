@@ -5,7 +5,7 @@ use Rattle.ng_base.specs.declared.kind.Kind.{Kind}
 use Rattle.ng_machine.specs.declared.command.Command.{Command as CommandLine}
 use Rattle.ng_machine.specs.declared.input.Input.{Input}
 use Rattle.ng_machine.specs.declared.input.Input.TheVariants.{Command}
-use Rattle.ng_machine.specs.Feed.{Given}
+use Rattle.ng_machine.specs.Feed.{RunInput}
 use Rattle.ng_machine.specs.Run.{run}
 use Rattle.ng_machine.specs.Totals.{totals_of}
 use Rattle.ng_machine.specs.World.{World, start_of}
@@ -17,7 +17,7 @@ abbrev pub inputs_of : List CommandLine → List Input
 inputs_of commands = map (λ command. Command command) commands
 
 -- what the run of a script is given, where messages are read so; no script in form asks for a message by its name
-abbrev pub given_of : Messages → List CommandLine → Given
+abbrev pub given_of : Messages → List CommandLine → RunInput
 given_of messages script = given (inputs_of script) messages
 
 -- as many items are applied at the most

@@ -57,7 +57,7 @@ fn print_and_end<O: Sink, B: Node>(
     requires short { AllToldFit core.now.told }
     requires hooks { hook_total core.now.nodes < 2 ^ 63 }
     ensures journal { result.journal.items ≡ journal.items }
-    ensures ends { (all : of ≡ length script.now) → PrintEnds (text_at script.now core.now stopped) stopped (record { old = O.held out.old; now = O.held out.new; before = O.faults out.old; after = O.faults out.new }) result.status result.fault }
+    ensures ends { (all : of ≡ length script.now) → PrintEnds (text_at script.now core.now stopped) stopped (record { old = O.contents out.old; now = O.contents out.new; before = O.faults out.old; after = O.faults out.new }) result.status result.fault }
 {
     match print_text(
         alloc,
@@ -92,7 +92,7 @@ fn run_script<O: Sink, B: Node>(alloc: Global, script: &Script, out: &mut O, sto
     requires form { IsInForm script.now }
     requires blank { All (λ b. B.state b ≡ blank_of (kind_of (B.state b))) stock.items }
     requires socket { has_kind (map (λ b. kind_of (B.state b)) stock.items) Kind.Socket ≡ true }
-    ensures { (messages : Messages) → EndsRun messages (map (λ b. kind_of (B.state b)) stock.items) script.now (record { old = O.held out.old; now = O.held out.new; before = O.faults out.old; after = O.faults out.new }) result.status result.journal.items result.fault }
+    ensures { (messages : Messages) → EndsRun messages (map (λ b. kind_of (B.state b)) stock.items) script.now (record { old = O.contents out.old; now = O.contents out.new; before = O.faults out.old; after = O.faults out.new }) result.status result.journal.items result.fault }
 {
     let Ok(inputs) = inputs(alloc, script.commands()) else {
         return refused(alloc, 71, Fault::NoMemory);
@@ -132,9 +132,9 @@ pub fn run_words<F: Files, O: Sink, B: Node>(
 ) -> Ended
     requires blank { All (λ b. B.state b ≡ blank_of (kind_of (B.state b))) stock.items }
     requires socket { has_kind (map (λ b. kind_of (B.state b)) stock.items) Kind.Socket ≡ true }
-    ensures ends { (messages : Messages) → EndsBy messages (map (λ b. kind_of (B.state b)) stock.items) (script_name (map (λ word. string_bytes word) words.now)) (F.held files.old) (F.faults files.old) (F.faults files.new)
-        (record { old = O.held out.old; now = O.held out.new; before = O.faults out.old; after = O.faults out.new }) result.status result.journal.items result.fault }
-    ensures files { F.held files.new ≡ F.held files.old }
+    ensures ends { (messages : Messages) → EndsBy messages (map (λ b. kind_of (B.state b)) stock.items) (script_name (map (λ word. string_bytes word) words.now)) (F.contents files.old) (F.faults files.old) (F.faults files.new)
+        (record { old = O.contents out.old; now = O.contents out.new; before = O.faults out.old; after = O.faults out.new }) result.status result.journal.items result.fault }
+    ensures files { F.contents files.new ≡ F.contents files.old }
 {
     let Some(name) = script_name(words) else {
         return refused(alloc, 64, Fault::Usage);
@@ -172,18 +172,18 @@ pub fn ngrun<F: Files, O: Sink>(
     requires blank { All (λ b. state b ≡ blank_of (kind_of (state b))) stock.items }
     requires socket { has_kind (map (λ b. kind_of (state b)) stock.items) Kind.Socket ≡ true }
     requires echo { has_kind (map (λ b. kind_of (state b)) stock.items) Kind.Echo ≡ true }
-    ensures ends { (messages : Messages) → EndsBy messages (map (λ b. kind_of (state b)) stock.items) (script_name (map (λ word. string_bytes word) words.now)) (F.held files.old) (F.faults files.old) (F.faults files.new)
-        (record { old = O.held out.old; now = O.held out.new; before = O.faults out.old; after = O.faults out.new }) result.status result.journal.items result.fault }
-    ensures files { F.held files.new ≡ F.held files.old }
+    ensures ends { (messages : Messages) → EndsBy messages (map (λ b. kind_of (state b)) stock.items) (script_name (map (λ word. string_bytes word) words.now)) (F.contents files.old) (F.faults files.old) (F.faults files.new)
+        (record { old = O.contents out.old; now = O.contents out.new; before = O.faults out.old; after = O.faults out.new }) result.status result.journal.items result.fault }
+    ensures files { F.contents files.new ≡ F.contents files.old }
     ensures status { result.status ≡ status_of result.fault result.journal.items }
     ensures usage { (result.fault ≡ Some Fault.Usage) ↔ (script_name (map (λ word. string_bytes word) words.now) ≡ None) }
-    ensures too_big { (name bytes : List ℕ) → script_name (map (λ word. string_bytes word) words.now) ≡ Some name → F.held files.old name ≡ Some bytes
+    ensures too_big { (name bytes : List ℕ) → script_name (map (λ word. string_bytes word) words.now) ≡ Some name → F.contents files.old name ≡ Some bytes
         → most_script < length bytes → Comes result.fault (Fault.TooBig Which.Script) }
-    ensures unbuilt { (name bytes : List ℕ) (line : ℕ) → script_name (map (λ word. string_bytes word) words.now) ≡ Some name → F.held files.old name ≡ Some bytes
+    ensures unbuilt { (name bytes : List ℕ) (line : ℕ) → script_name (map (λ word. string_bytes word) words.now) ≡ Some name → F.contents files.old name ≡ Some bytes
         → length bytes ≤ most_script → IsUnbuilt bytes line → Comes result.fault (Fault.Script (ScriptFault.Unbuilt line)) }
-    ensures runs { (messages : Messages) (name bytes : List ℕ) (script : List Command) → script_name (map (λ word. string_bytes word) words.now) ≡ Some name → F.held files.old name ≡ Some bytes
+    ensures runs { (messages : Messages) (name bytes : List ℕ) (script : List Command) → script_name (map (λ word. string_bytes word) words.now) ≡ Some name → F.contents files.old name ≡ Some bytes
         → length bytes ≤ most_script → IsScript bytes script
-        → RunsAs messages (map (λ b. kind_of (state b)) stock.items) script (record { old = O.held out.old; now = O.held out.new; before = O.faults out.old; after = O.faults out.new }) result.status result.journal.items result.fault }
+        → RunsAs messages (map (λ b. kind_of (state b)) stock.items) script (record { old = O.contents out.old; now = O.contents out.new; before = O.faults out.old; after = O.faults out.new }) result.status result.journal.items result.fault }
 {
     run_words(alloc, words, files, out, stock)
 }

@@ -2,10 +2,10 @@
 use Rattle.std.proofs.Common.{◌≡◌, ◌≤◌, ◌<◌, ◌+◌, ℕ, true, false, eqb, List, [], ◌∷◌, length, get_or, nat_le, refl, sym, ap, ◌∙◌, arith}
 use Rattle.std.proofs.lemmas.Bool.{and_parts, and_from, le-leb, leb-true, ne_eqb, eqb-false}
 use Rattle.ng_shape.specs.declared.tree.Member.{Member}
-use Rattle.ng_shape.specs.Values.{Value, Nil, find, are_ascending, member_of, members_of}
+use Rattle.ng_shape.specs.Values.{Value, Absent, find, are_ascending, member_of, members_of}
 
 -- no member is below the first
-pub find_below : (low i : ℕ) (ms : List (ℕ × Value)) → are_ascending low ms ≡ true → i < low → find i ms ≡ Nil
+pub find_below : (low i : ℕ) (ms : List (ℕ × Value)) → are_ascending low ms ≡ true → i < low → find i ms ≡ Absent
 find_below low i [] up lt = refl
 find_below low i (m ∷ ms) up lt =
     let both = and_parts (nat_le low m.0) (are_ascending (m.0 + 1) ms) up in
@@ -14,7 +14,7 @@ find_below low i (m ∷ ms) up lt =
     rw other (find_below (m.0 + 1) i ms both.1 (omega arith))
 
 -- the first member is another
-pub find_other : (i : ℕ) (m : ℕ × Value) (ms : List (ℕ × Value)) → are_ascending i (m ∷ ms) ≡ true → eqb m.0 i ≡ false → find i (m ∷ ms) ≡ Nil
+pub find_other : (i : ℕ) (m : ℕ × Value) (ms : List (ℕ × Value)) → are_ascending i (m ∷ ms) ≡ true → eqb m.0 i ≡ false → find i (m ∷ ms) ≡ Absent
 find_other i m ms up ne =
     let both = and_parts (nat_le i m.0) (are_ascending (m.0 + 1) ms) up in
     let le : i ≤ m.0 = leb-true i m.0 both.0 in
@@ -29,6 +29,6 @@ ascends_on i m ms up ne =
     and_from (nat_le (i + 1) m.0) (are_ascending (m.0 + 1) ms) (le-leb (i + 1) m.0 (omega arith)) both.1
 
 -- the first member, which is not that one
-pub first_other : (ms : List Member) (i : ℕ) (m : Member) → m ≡ get_or ms 0 m → 1 ≤ length ms → are_ascending i (members_of ms) ≡ true → (m.number ≡ i → ⊥) → Nil ≡ find i (members_of ms)
+pub first_other : (ms : List Member) (i : ℕ) (m : Member) → m ≡ get_or ms 0 m → 1 ≤ length ms → are_ascending i (members_of ms) ≡ true → (m.number ≡ i → ⊥) → Absent ≡ find i (members_of ms)
 first_other [] i m e le up ne = refl
 first_other (k ∷ ms) i m e le up ne = sym (find_other i (member_of k) (members_of ms) up (ne_eqb k.number i (λ h. ne (ap (λ (x : Member). x.number) e ∙ h))))

@@ -3,7 +3,7 @@ pub mod Depths
 pub mod Counts
 pub mod Widths
 pub mod Ascending
-pub mod Rows
+pub mod WriteLoops
 pub mod Given
 pub mod Reading
 pub mod ReadLoops

@@ -1,21 +1,22 @@
 -- Readers leave an end of what they read.
-use Rattle.std.proofs.Common.{◌≡◌, ◌≤◌, ◌<◌, ◌+◌, ◌-◌, ℕ, zero, suc, false, true, nat_lt, List, [], ◌++◌, length, take, drop, length-drop, Ok, Err, IfOk, refl, ap, ◌∙◌, inl, inr, arith}
+use Rattle.std.proofs.Common.{◌≡◌, ◌≤◌, ◌<◌, ◌+◌, ◌-◌, ℕ, zero, suc, false, true, nat_lt, List, [], ◌++◌, length, take, drop, length-drop, Ok, Err}
+use Rattle.std.proofs.Common.{IfOk, refl, ap, ◌∙◌, inl, inr, arith}
 use Rattle.std.proofs.lemmas.Bool.{cases_lt}
 use Rattle.std.proofs.lemmas.Bool.Decides.{nat_tests}
 use Rattle.std.proofs.lemmas.List.{drop-drop}
 use Rattle.std.proofs.lemmas.Result.{IfOk-at_ok}
-use Rattle.ng_shape.specs.Forms.{Form, Empty, Unsigned, Signed, Hexadecimal, Chars, Address, Fields, Row, CountedRow, Parts, no_parts, part, Counter}
+use Rattle.ng_shape.specs.Shape.{Shape, Nothing, UInt, Int, Hex, Str, Ether, Struct, Array, Counted, Fields, no_fields, field, CountField}
 use Rattle.ng_shape.specs.Values.{Value, count_in}
 use Rattle.ng_shape.specs.Layout.{width, gap}
-use Rattle.ng_shape.specs.Decoding.{Read, ◌>>=◌, held, given, number_in, text_in, address_in, row_in, as_group, ended, value_in, parts_read}
+use Rattle.ng_shape.specs.Decoding.{Read, ◌>>=◌, take_exactly, given, number_in, text_in, address_in, array_in, as_group, read_end, value_in, read_fields}
 
-pub held_ok : (n : ℕ) (bytes : List ℕ) → n ≤ length bytes → held n bytes ≡ Ok (take n bytes, drop n bytes)
-unfolding held
-held_ok n bytes le = let test : nat_lt (length bytes) n ≡ false = grind (arith, nat_tests) in rw test refl
+pub take_exactly_ok : (n : ℕ) (bytes : List ℕ) → n ≤ length bytes → take_exactly n bytes ≡ Ok (take n bytes, drop n bytes)
+unfolding take_exactly
+take_exactly_ok n bytes le = let test : nat_lt (length bytes) n ≡ false = grind (arith, nat_tests) in rw test refl
 
-pub held_short : (n : ℕ) (bytes : List ℕ) → length bytes < n → held n bytes ≡ Err (n - length bytes)
-unfolding held
-held_short n bytes lt = let test : nat_lt (length bytes) n ≡ true = grind (arith, nat_tests) in rw test refl
+pub take_exactly_short : (n : ℕ) (bytes : List ℕ) → length bytes < n → take_exactly n bytes ≡ Err (n - length bytes)
+unfolding take_exactly
+take_exactly_short n bytes lt = let test : nat_lt (length bytes) n ≡ true = grind (arith, nat_tests) in rw test refl
 
 -- the rest is an end of the bytes
 abbrev pub IsEnd : List ℕ → List ℕ → Type 0
@@ -38,55 +39,55 @@ goes_on : {A B : Type 0} (r : Read A) (f : A × List ℕ → Read B) (bytes : Li
 goes_on (Ok x) f bytes g h = goes_further (f x) x.1 bytes (h x) g
 goes_on (Err m) f bytes g h = tt
 
-held_goes : (n : ℕ) (bytes : List ℕ) → Goes (held n bytes) bytes
-held_goes n bytes =
-    elim (cases_lt (length bytes) n) [ inl lt ↦ rw (held_short n bytes lt) tt | inr le ↦ rw (held_ok n bytes le) (n, le, refl) ]
+take_exactly_goes : (n : ℕ) (bytes : List ℕ) → Goes (take_exactly n bytes) bytes
+take_exactly_goes n bytes =
+    elim (cases_lt (length bytes) n) [ inl lt ↦ rw (take_exactly_short n bytes lt) tt | inr le ↦ rw (take_exactly_ok n bytes le) (n, le, refl) ]
 
 number_goes : (w front : ℕ) (bytes : List ℕ) → Goes (number_in w front bytes) bytes
 unfolding number_in
 number_goes w front bytes =
-    goes_on (held (gap w (front - length bytes)) bytes) _ bytes (held_goes _ bytes) (λ p. goes_on (held w p.1) _ p.1 (held_goes w p.1) (λ x. end_here x.1))
+    goes_on (take_exactly (gap w (front - length bytes)) bytes) _ bytes (take_exactly_goes _ bytes) (λ p. goes_on (take_exactly w p.1) _ p.1 (take_exactly_goes w p.1) (λ x. end_here x.1))
 
 text_goes : (n : ℕ) (bytes : List ℕ) → Goes (text_in n bytes) bytes
 unfolding text_in
-text_goes n bytes = goes_on (held n bytes) _ bytes (held_goes n bytes) (λ x. end_here x.1)
+text_goes n bytes = goes_on (take_exactly n bytes) _ bytes (take_exactly_goes n bytes) (λ x. end_here x.1)
 
 address_goes : (bytes : List ℕ) → Goes (address_in bytes) bytes
 unfolding address_in
-address_goes bytes = goes_on (held 6 bytes) _ bytes (held_goes 6 bytes) (λ x. end_here x.1)
+address_goes bytes = goes_on (take_exactly 6 bytes) _ bytes (take_exactly_goes 6 bytes) (λ x. end_here x.1)
 
-row_goes : (element : List ℕ → Read Value) → ((b : List ℕ) → Goes (element b) b) → (i k : ℕ) (so_far : List (ℕ × Value)) (bytes : List ℕ) → Goes (row_in element i k so_far bytes) bytes
-unfolding row_in
-row_goes element h i zero so_far bytes = end_here bytes
-row_goes element h i (suc k) so_far bytes = goes_on (element bytes) _ bytes (h bytes) (λ x. row_goes element h (i + 1) k (so_far ++ given i x.0) x.1)
+array_goes : (element : List ℕ → Read Value) → ((b : List ℕ) → Goes (element b) b) → (i k : ℕ) (so_far : List (ℕ × Value)) (bytes : List ℕ) → Goes (array_in element i k so_far bytes) bytes
+unfolding array_in
+array_goes element h i zero so_far bytes = end_here bytes
+array_goes element h i (suc k) so_far bytes = goes_on (element bytes) _ bytes (h bytes) (λ x. array_goes element h (i + 1) k (so_far ++ given i x.0) x.1)
 
 group_goes : (r : Read (List (ℕ × Value))) (bytes : List ℕ) → Goes r bytes → Goes (as_group r) bytes
 group_goes r bytes g = goes_on r _ bytes g (λ x. end_here x.1)
 
-ended_goes : (ps : Parts) (bytes : List ℕ) (r : Read (List (ℕ × Value))) → Goes r bytes → Goes (ended ps bytes r) bytes
-ended_goes ps bytes r g = goes_on r _ bytes g (λ x. goes_on (held _ x.1) _ x.1 (held_goes _ x.1) (λ y. end_here y.1))
+read_end_goes : (ps : Fields) (bytes : List ℕ) (r : Read (List (ℕ × Value))) → Goes r bytes → Goes (read_end ps bytes r) bytes
+read_end_goes ps bytes r g = goes_on r _ bytes g (λ x. goes_on (take_exactly _ x.1) _ x.1 (take_exactly_goes _ x.1) (λ y. end_here y.1))
 
 mutual
-  unfolding value_in parts_read
+  unfolding value_in read_fields
 
-  pub value_goes : (f : Form) (count : Counter → ℕ) (front : ℕ) (bytes : List ℕ) → Goes (value_in f count front bytes) bytes
-  value_goes Empty count front bytes = end_here bytes
-  value_goes (Unsigned bits) count front bytes = number_goes (width bits) front bytes
-  value_goes (Signed bits) count front bytes = number_goes (width bits) front bytes
-  value_goes (Hexadecimal bits) count front bytes = number_goes (width bits) front bytes
-  value_goes (Chars n) count front bytes = text_goes n bytes
-  value_goes Address count front bytes = address_goes bytes
-  value_goes (Fields ps) count front bytes = ended_goes ps bytes _ (parts_go ps ps 0 [] (length bytes) bytes)
-  value_goes (Row n f) count front bytes = group_goes _ bytes (row_goes (value_in f count front) (value_goes f count front) 0 n [] bytes)
-  value_goes (CountedRow by max f) count front bytes = group_goes _ bytes (row_goes (value_in f count front) (value_goes f count front) 0 (count by) [] bytes)
+  pub value_goes : (f : Shape) (count : CountField → ℕ) (front : ℕ) (bytes : List ℕ) → Goes (value_in f count front bytes) bytes
+  value_goes Nothing count front bytes = end_here bytes
+  value_goes (UInt bits) count front bytes = number_goes (width bits) front bytes
+  value_goes (Int bits) count front bytes = number_goes (width bits) front bytes
+  value_goes (Hex bits) count front bytes = number_goes (width bits) front bytes
+  value_goes (Str n) count front bytes = text_goes n bytes
+  value_goes Ether count front bytes = address_goes bytes
+  value_goes (Struct ps) count front bytes = read_end_goes ps bytes _ (fields_go ps ps 0 [] (length bytes) bytes)
+  value_goes (Array n f) count front bytes = group_goes _ bytes (array_goes (value_in f count front) (value_goes f count front) 0 n [] bytes)
+  value_goes (Counted by max f) count front bytes = group_goes _ bytes (array_goes (value_in f count front) (value_goes f count front) 0 (count by) [] bytes)
 
-  parts_go : (ps whole : Parts) (i : ℕ) (so_far : List (ℕ × Value)) (front : ℕ) (bytes : List ℕ) → Goes (parts_read whole ps i so_far front bytes) bytes
-  parts_go no_parts whole i so_far front bytes = end_here bytes
-  parts_go (part name f ps) whole i so_far front bytes =
-      goes_on (value_in f (count_in whole so_far) front bytes) _ bytes (value_goes f (count_in whole so_far) front bytes) (λ x. parts_go ps whole (i + 1) (so_far ++ given i x.0) front x.1)
+  fields_go : (ps whole : Fields) (i : ℕ) (so_far : List (ℕ × Value)) (front : ℕ) (bytes : List ℕ) → Goes (read_fields whole ps i so_far front bytes) bytes
+  fields_go no_fields whole i so_far front bytes = end_here bytes
+  fields_go (field name f ps) whole i so_far front bytes =
+      goes_on (value_in f (count_in whole so_far) front bytes) _ bytes (value_goes f (count_in whole so_far) front bytes) (λ x. fields_go ps whole (i + 1) (so_far ++ given i x.0) front x.1)
 
 -- what takes no bytes leaves them
-pub takes_none : (f : Form) (count : Counter → ℕ) (front : ℕ) (bytes after : List ℕ) (v : Value) → value_in f count front bytes ≡ Ok (v, after) → length after ≡ length bytes → after ≡ bytes
+pub takes_none : (f : Shape) (count : CountField → ℕ) (front : ℕ) (bytes after : List ℕ) (v : Value) → value_in f count front bytes ≡ Ok (v, after) → length after ≡ length bytes → after ≡ bytes
 takes_none f count front bytes after v e same =
     let (k, le, is) = IfOk-at_ok (λ (x : Value × List ℕ). IsEnd x.1 bytes) e (value_goes f count front bytes) in
     let none : k ≡ 0 = omega (arith, length-drop k bytes, ap length is) in

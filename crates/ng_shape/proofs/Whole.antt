@@ -1,29 +1,30 @@
 -- The laws of all of a value's bytes.
-use Rattle.std.proofs.Common.{◌≡◌, ◌+◌, ℕ, zero, suc, true, false, eqb, ◌&&◌, not, nat_le, List, [], ◌∷◌, ◌++◌, length, take, Ok, Err, refl, sym, ap, ◌∙◌, append-nil, arith}
+use Rattle.std.proofs.Common.{◌≡◌, ◌+◌, ℕ, zero, suc, true, false, eqb, ◌&&◌, not, nat_le, List, [], ◌∷◌, ◌++◌, length, take, Ok, Err, refl, sym}
+use Rattle.std.proofs.Common.{ap, ◌∙◌, append-nil, arith}
 use Rattle.std.specs.Result.{IsOk}
 use Rattle.std.proofs.lemmas.Bool.{and_parts, ne_eqb}
-use Rattle.ng_shape.specs.Forms.{Form, Empty, Unsigned, Signed, Hexadecimal, Chars, Address, Fields, Row, CountedRow, Parts, no_parts, part, Counter}
-use Rattle.ng_shape.specs.Shapes.{IsShape, is_counted, is_sound, depth}
+use Rattle.ng_shape.specs.Shape.{Shape, Nothing, UInt, Int, Hex, Str, Ether, Struct, Array, Counted, Fields, no_fields, field, CountField}
+use Rattle.ng_shape.specs.Sound.{IsShape, is_counted, is_sound, depth}
 use Rattle.ng_shape.specs.Values.{Value, number, chars, members, find, count_in}
-use Rattle.ng_shape.specs.Layout.{width, gap, end_gap, zeros, number_bytes, text_bytes, row_bytes, layout, parts_bytes, counts_nothing, bytes_of}
+use Rattle.ng_shape.specs.Layout.{width, gap, end_gap, zeros, number_bytes, text_bytes, array_bytes, layout, fields_bytes, counts_nothing, bytes_of}
 use Rattle.ng_shape.specs.Decoding.{Read, value_in, all_read, value_from}
-use Rattle.ng_shape.specs.Canonical.{AreBytes, Fits, FitParts, EachFits, IsFitting, IsClean, IsCanonical, plain_of}
+use Rattle.ng_shape.specs.Canonical.{AreBytes, Fits, FitFields, EachFits, IsFitting, IsClean, IsCanonical, plain_of}
 use Rattle.ng_shape.specs.Laws.{FittingIsCanonical, FittingIsGivenBack, CanonicalIsLayout}
 use Rattle.ng_shape.proofs.Pieces.{bytes_join, bytes_take, bytes_zeros, bytes_number, bytes_chars}
 use Rattle.ng_shape.proofs.Agreeing.{Agree}
 use Rattle.ng_shape.proofs.Again.{value_again}
 use Rattle.ng_shape.proofs.Back.{value_back}
 
-agree_same : (f : Form) (c : Counter → ℕ) → Agree f c c
-agree_same Empty c = tt
-agree_same (Unsigned bits) c = tt
-agree_same (Signed bits) c = tt
-agree_same (Hexadecimal bits) c = tt
-agree_same (Chars n) c = tt
-agree_same Address c = tt
-agree_same (Fields ps) c = tt
-agree_same (Row n f) c = agree_same f c
-agree_same (CountedRow by max f) c = (refl, agree_same f c)
+agree_same : (f : Shape) (c : CountField → ℕ) → Agree f c c
+agree_same Nothing c = tt
+agree_same (UInt bits) c = tt
+agree_same (Int bits) c = tt
+agree_same (Hex bits) c = tt
+agree_same (Str n) c = tt
+agree_same Ether c = tt
+agree_same (Struct ps) c = tt
+agree_same (Array n f) c = agree_same f c
+agree_same (Counted by max f) c = (refl, agree_same f c)
 
 -- ---- a value's bytes are bytes
 
@@ -33,42 +34,42 @@ number_good w at n = bytes_join (zeros (gap w at)) _ (bytes_zeros (gap w at)) (b
 text_good : (n : ℕ) (cs : List ℕ) → AreBytes cs → AreBytes (text_bytes n cs)
 text_good n cs good = bytes_join (take n cs) _ (bytes_take n cs good) (bytes_zeros _)
 
-row_good : (element : Value → ℕ → List ℕ) (P : Value → Type 0) → ((v : Value) (at : ℕ) → P v → AreBytes (element v at)) → (ms : List (ℕ × Value)) (i k at : ℕ) → EachFits P ms i k → AreBytes (row_bytes element ms i k at)
-unfolding row_bytes
-row_good element P each ms i zero at fits = tt
-row_good element P each ms i (suc k) at fits =
-    bytes_join (element (find i ms) at) _ (each (find i ms) at (fits i (omega arith) (omega arith))) (row_good element P each ms (i + 1) k (at + length (element (find i ms) at)) (λ j le lt. fits j (omega arith) (omega arith)))
+array_good : (element : Value → ℕ → List ℕ) (P : Value → Type 0) → ((v : Value) (at : ℕ) → P v → AreBytes (element v at)) → (ms : List (ℕ × Value)) (i k at : ℕ) → EachFits P ms i k → AreBytes (array_bytes element ms i k at)
+unfolding array_bytes
+array_good element P each ms i zero at fits = tt
+array_good element P each ms i (suc k) at fits =
+    bytes_join (element (find i ms) at) _ (each (find i ms) at (fits i (omega arith) (omega arith))) (array_good element P each ms (i + 1) k (at + length (element (find i ms) at)) (λ j le lt. fits j (omega arith) (omega arith)))
 
 mutual
-  unfolding layout parts_bytes
+  unfolding layout fields_bytes
 
-  layout_good : (f : Form) (c : Counter → ℕ) (v : Value) (at : ℕ) → Fits f c v → AreBytes (layout f c v at)
-  layout_good Empty c v at fits = tt
-  layout_good (Unsigned bits) c v at fits = number_good (width bits) at (number v)
-  layout_good (Signed bits) c v at fits = number_good (width bits) at (number v)
-  layout_good (Hexadecimal bits) c v at fits = number_good (width bits) at (number v)
-  layout_good (Chars n) c v at fits = text_good n (chars v) (bytes_chars (chars v) fits.0)
-  layout_good Address c v at fits = text_good 6 (chars v) fits.0
-  layout_good (Fields ps) c v at fits =
-      let fields = parts_bytes ps (count_in ps (members v)) (members v) 0 0 in
-      bytes_join fields _ (parts_good ps (count_in ps (members v)) (members v) 0 0 fits) (bytes_zeros (end_gap ps (length fields)))
-  layout_good (Row n f) c v at fits = row_good (layout f c) (Fits f c) (λ w at fits. layout_good f c w at fits) (members v) 0 n at fits
-  layout_good (CountedRow by max f) c v at fits = row_good (layout f c) (Fits f c) (λ w at fits. layout_good f c w at fits) (members v) 0 (c by) at fits.1
+  layout_good : (f : Shape) (c : CountField → ℕ) (v : Value) (at : ℕ) → Fits f c v → AreBytes (layout f c v at)
+  layout_good Nothing c v at fits = tt
+  layout_good (UInt bits) c v at fits = number_good (width bits) at (number v)
+  layout_good (Int bits) c v at fits = number_good (width bits) at (number v)
+  layout_good (Hex bits) c v at fits = number_good (width bits) at (number v)
+  layout_good (Str n) c v at fits = text_good n (chars v) (bytes_chars (chars v) fits.0)
+  layout_good Ether c v at fits = text_good 6 (chars v) fits.0
+  layout_good (Struct ps) c v at fits =
+      let fields = fields_bytes ps (count_in ps (members v)) (members v) 0 0 in
+      bytes_join fields _ (fields_good ps (count_in ps (members v)) (members v) 0 0 fits) (bytes_zeros (end_gap ps (length fields)))
+  layout_good (Array n f) c v at fits = array_good (layout f c) (Fits f c) (λ w at fits. layout_good f c w at fits) (members v) 0 n at fits
+  layout_good (Counted by max f) c v at fits = array_good (layout f c) (Fits f c) (λ w at fits. layout_good f c w at fits) (members v) 0 (c by) at fits.1
 
-  parts_good : (ps : Parts) (c : Counter → ℕ) (ms : List (ℕ × Value)) (j at : ℕ) → FitParts ps c ms j → AreBytes (parts_bytes ps c ms j at)
-  parts_good no_parts c ms j at fits = tt
-  parts_good (part name f ps) c ms j at fits =
-      bytes_join (layout f c (find j ms) at) _ (layout_good f c (find j ms) at fits.0) (parts_good ps c ms (j + 1) (at + length (layout f c (find j ms) at)) fits.1)
+  fields_good : (ps : Fields) (c : CountField → ℕ) (ms : List (ℕ × Value)) (j at : ℕ) → FitFields ps c ms j → AreBytes (fields_bytes ps c ms j at)
+  fields_good no_fields c ms j at fits = tt
+  fields_good (field name f ps) c ms j at fits =
+      bytes_join (layout f c (find j ms) at) _ (layout_good f c (find j ms) at fits.0) (fields_good ps c ms (j + 1) (at + length (layout f c (find j ms) at)) fits.1)
 
 -- ---- the laws
 
-sound_shape : (f : Form) → IsShape f → is_sound f ≡ true
+sound_shape : (f : Shape) → IsShape f → is_sound f ≡ true
 sound_shape f shape =
     let both = and_parts (not (is_counted f) && is_sound f) (nat_le (depth f) 16) shape in
     (and_parts (not (is_counted f)) (is_sound f) both.0).1
 
 -- all of the bytes are read, and clean
-all_again : (f : Form) (v : Value) → IsShape f → IsFitting f v → (value_in f counts_nothing (length (bytes_of f v)) (bytes_of f v) ≡ Ok (plain_of f v, [])) × IsClean f counts_nothing (length (bytes_of f v)) (bytes_of f v)
+all_again : (f : Shape) (v : Value) → IsShape f → IsFitting f v → (value_in f counts_nothing (length (bytes_of f v)) (bytes_of f v) ≡ Ok (plain_of f v, [])) × IsClean f counts_nothing (length (bytes_of f v)) (bytes_of f v)
 all_again f v shape fits =
     let bytes = bytes_of f v in
     let whole : bytes ++ [] ≡ bytes = append-nil bytes in

@@ -4,8 +4,8 @@
 -- and padding is zeros.
 use Rattle.std.specs.Prelude.{ℕ, zero, suc, ◌+◌, ◌-◌, ◌%◌, max, Bool, false, List, [], ◌++◌, length, take, replicate, ◌==◌, if◌then◌else◌}
 use Rattle.byteorder.specs.Endian.{little_bytes}
-use Rattle.ng_shape.specs.Forms.{Form, Empty, Unsigned, Signed, Hexadecimal, Chars, Address, Fields, Row, CountedRow, Parts, no_parts, part, Counter}
-use Rattle.ng_shape.specs.Shapes.{is_counted}
+use Rattle.ng_shape.specs.Shape.{Shape, Nothing, UInt, Int, Hex, Str, Ether, Struct, Array, Counted, Fields, no_fields, field, CountField}
+use Rattle.ng_shape.specs.Sound.{is_counted}
 use Rattle.ng_shape.specs.Values.{Value, number, chars, members, find, count_in}
 
 -- the bytes of an integer of so many bits
@@ -14,34 +14,34 @@ width bits = if bits == 16 then 2 else if bits == 32 then 4 else if bits == 64 t
 
 abbrev mutual
   -- the bytes of the widest integer
-  pub widest : Form → ℕ
-  widest Empty = 1
-  widest (Unsigned bits) = width bits
-  widest (Signed bits) = width bits
-  widest (Hexadecimal bits) = width bits
-  widest (Chars n) = 1
-  widest Address = 1
-  widest (Fields ps) = widest_part ps
-  widest (Row n f) = widest f
-  widest (CountedRow by max f) = widest f
+  pub widest : Shape → ℕ
+  widest Nothing = 1
+  widest (UInt bits) = width bits
+  widest (Int bits) = width bits
+  widest (Hex bits) = width bits
+  widest (Str n) = 1
+  widest Ether = 1
+  widest (Struct fs) = widest_field fs
+  widest (Array n s) = widest s
+  widest (Counted by max s) = widest s
 
-  pub widest_part : Parts → ℕ
-  widest_part no_parts = 1
-  widest_part (part n f ps) = max (widest f) (widest_part ps)
+  pub widest_field : Fields → ℕ
+  widest_field no_fields = 1
+  widest_field (field n s fs) = max (widest s) (widest_field fs)
 
 -- whether the last field is a counted array
-abbrev pub ends_counted : Parts → Bool
-ends_counted no_parts = false
-ends_counted (part name f no_parts) = is_counted f
-ends_counted (part name f (part n g ps)) = ends_counted (part n g ps)
+abbrev pub ends_counted : Fields → Bool
+ends_counted no_fields = false
+ends_counted (field name s no_fields) = is_counted s
+ends_counted (field name s (field n g fs)) = ends_counted (field n g fs)
 
 -- what is missing at a place to a multiple of w
 abbrev pub gap : ℕ → ℕ → ℕ
 gap w at = (w - at % w) % w
 
 -- what is missing at the end of a structure
-abbrev pub end_gap : Parts → ℕ → ℕ
-end_gap ps size = if ends_counted ps then 0 else gap (widest_part ps) size
+abbrev pub end_gap : Fields → ℕ → ℕ
+end_gap fs size = if ends_counted fs then 0 else gap (widest_field fs) size
 
 abbrev pub zeros : ℕ → List ℕ
 zeros n = replicate n 0
@@ -54,35 +54,35 @@ abbrev pub text_bytes : ℕ → List ℕ → List ℕ
 text_bytes n text = take n text ++ zeros (n - length text)
 
 -- a structure's end, after its fields
-abbrev pub closed : Parts → List ℕ → List ℕ
-closed ps bytes = bytes ++ zeros (end_gap ps (length bytes))
+abbrev pub pad_end : Fields → List ℕ → List ℕ
+pad_end fs bytes = bytes ++ zeros (end_gap fs (length bytes))
 
 -- elements from number i on, k of them
-unfoldable pub row_bytes : (Value → ℕ → List ℕ) → List (ℕ × Value) → ℕ → ℕ → ℕ → List ℕ
-row_bytes element ms i zero at = []
-row_bytes element ms i (suc k) at = let bytes = element (find i ms) at in bytes ++ row_bytes element ms (i + 1) k (at + length bytes)
+unfoldable pub array_bytes : (Value → ℕ → List ℕ) → List (ℕ × Value) → ℕ → ℕ → ℕ → List ℕ
+array_bytes element ms i zero at = []
+array_bytes element ms i (suc k) at = let bytes = element (find i ms) at in bytes ++ array_bytes element ms (i + 1) k (at + length bytes)
 
 -- the bytes of a value at a place, counted from the front of its structure, with what fields of that structure count
 unfoldable mutual
-  pub layout : Form → (Counter → ℕ) → Value → ℕ → List ℕ
-  layout Empty count v at = []
-  layout (Unsigned bits) count v at = number_bytes (width bits) at (number v)
-  layout (Signed bits) count v at = number_bytes (width bits) at (number v)
-  layout (Hexadecimal bits) count v at = number_bytes (width bits) at (number v)
-  layout (Chars n) count v at = text_bytes n (chars v)
-  layout Address count v at = text_bytes 6 (chars v)
-  layout (Fields ps) count v at = closed ps (parts_bytes ps (count_in ps (members v)) (members v) 0 0)
-  layout (Row n f) count v at = row_bytes (layout f count) (members v) 0 n at
-  layout (CountedRow by max f) count v at = row_bytes (layout f count) (members v) 0 (count by) at
+  pub layout : Shape → (CountField → ℕ) → Value → ℕ → List ℕ
+  layout Nothing count v at = []
+  layout (UInt bits) count v at = number_bytes (width bits) at (number v)
+  layout (Int bits) count v at = number_bytes (width bits) at (number v)
+  layout (Hex bits) count v at = number_bytes (width bits) at (number v)
+  layout (Str n) count v at = text_bytes n (chars v)
+  layout Ether count v at = text_bytes 6 (chars v)
+  layout (Struct fs) count v at = pad_end fs (fields_bytes fs (count_in fs (members v)) (members v) 0 0)
+  layout (Array n s) count v at = array_bytes (layout s count) (members v) 0 n at
+  layout (Counted by max s) count v at = array_bytes (layout s count) (members v) 0 (count by) at
 
   -- the fields from number i on
-  pub parts_bytes : Parts → (Counter → ℕ) → List (ℕ × Value) → ℕ → ℕ → List ℕ
-  parts_bytes no_parts count ms i at = []
-  parts_bytes (part name f ps) count ms i at = let bytes = layout f count (find i ms) at in bytes ++ parts_bytes ps count ms (i + 1) (at + length bytes)
+  pub fields_bytes : Fields → (CountField → ℕ) → List (ℕ × Value) → ℕ → ℕ → List ℕ
+  fields_bytes no_fields count ms i at = []
+  fields_bytes (field name s fs) count ms i at = let bytes = layout s count (find i ms) at in bytes ++ fields_bytes fs count ms (i + 1) (at + length bytes)
 
-abbrev pub counts_nothing : Counter → ℕ
+abbrev pub counts_nothing : CountField → ℕ
 counts_nothing by = 0
 
 -- all of a value's bytes
-abbrev pub bytes_of : Form → Value → List ℕ
-bytes_of f v = layout f counts_nothing v 0
+abbrev pub bytes_of : Shape → Value → List ℕ
+bytes_of s v = layout s counts_nothing v 0

@@ -1,5 +1,5 @@
-pub mod Forms
-pub mod Shapes
+pub mod Shape
+pub mod Sound
 pub mod Values
 pub mod Layout
 pub mod Decoding

@@ -1,17 +1,18 @@
 -- Values without where they lie in memory.
 use Rattle.std.specs.Prelude.{ℕ, ◌+◌, Bool, true, false, ◌&&◌, nat_le, ◌==◌, if◌then◌else◌, List, [], ◌∷◌, Option, Some, None}
 use Rattle.std.specs.Borrow.{Bor}
-use Rattle.ng_shape.specs.declared.tree.Tree.{Tree, Absent, Number, Text, Group', Row_of-Member, end_of-Member, more_of-Member}
+use Rattle.ng_shape.specs.declared.tree.Tree as rust
+use Rattle.ng_shape.specs.declared.tree.Tree.{Tree, Row_of-Member, end_of-Member, more_of-Member}
 use Rattle.ng_shape.specs.declared.tree.Member.{Member}
-use Rattle.ng_shape.specs.Forms.{Parts, Counter, by_own, by_inner, field_number, form_named, parts_inside}
+use Rattle.ng_shape.specs.Shape.{Fields, CountField, Own, Inside, field_number, shape_named, fields_inside}
 
 mutual
   -- numbers and groups have the number of bytes from their front to the end of the text
   pub data Value : Type 0 where
-    Nil : Value
-    Num : ℕ → ℕ → Value
-    Bytes : List ℕ → Value
-    Several : ℕ → Members → Value
+    Absent : Value
+    Number : ℕ → ℕ → Value
+    Text : List ℕ → Value
+    Group : ℕ → Members → Value
 
   -- members by their numbers, in the order in which they were given
   pub data Members : Type 0 where
@@ -20,10 +21,10 @@ mutual
 
 abbrev mutual
   pub value_of : Tree → Value
-  value_of Absent = Nil
-  value_of (Number left n) = Num left n
-  value_of (Text v) = Bytes v.items
-  value_of (Group' left n row) = Several left (members_in row)
+  value_of rust.Absent = Absent
+  value_of (rust.Number left n) = Number left n
+  value_of (rust.Text v) = Text v.items
+  value_of (rust.Group' left n row) = Group left (members_in row)
 
   pub members_in : {m : _} → Row_of-Member m → Members
   members_in end_of-Member = no_more
@@ -37,7 +38,7 @@ abbrev pub unpack : Members → List (ℕ × Value)
 unpack no_more = []
 unpack (member i v ms) = (i, v) ∷ unpack ms
 
--- a member, and several
+-- a member with its number
 abbrev pub member_of : Member → ℕ × Value
 member_of m = (m.number, value_of m.tree)
 
@@ -47,43 +48,37 @@ members_of (m ∷ ms) = member_of m ∷ members_of ms
 
 -- a value, or nothing where none was given
 abbrev pub value_seen : Option (Bor Tree) → Value
-value_seen None = Nil
+value_seen None = Absent
 value_seen (Some t) = value_of t.now
 
-abbrev pub is_nil : Value → Bool
-is_nil Nil = true
-is_nil (Num left n) = false
-is_nil (Bytes bs) = false
-is_nil (Several left ms) = false
+abbrev pub is_absent : Value → Bool
+is_absent Absent = true
+is_absent _ = false
 
 -- the number that a value is, and 0 where it is none
 abbrev pub number : Value → ℕ
-number Nil = 0
-number (Num left n) = n
-number (Bytes bs) = 0
-number (Several left ms) = 0
+number (Number left n) = n
+number _ = 0
 
 -- the bytes that a value is, and none where it is no string or address
 abbrev pub chars : Value → List ℕ
-chars Nil = []
-chars (Num left n) = []
-chars (Bytes bs) = bs
-chars (Several left ms) = []
+chars (Text bs) = bs
+chars _ = []
 
 -- the members that a value has
 abbrev pub members : Value → List (ℕ × Value)
-members Nil = []
-members (Num left n) = []
-members (Bytes bs) = []
-members (Several left ms) = unpack ms
+members Absent = []
+members (Number left n) = []
+members (Text bs) = []
+members (Group left ms) = unpack ms
 
 -- the first member of that number, and nothing where there is none
 abbrev pub find : ℕ → List (ℕ × Value) → Value
-find i [] = Nil
+find i [] = Absent
 find i (m ∷ ms) = if m.0 == i then m.1 else find i ms
 
 abbrev pub find_if : Option ℕ → List (ℕ × Value) → Value
-find_if None ms = Nil
+find_if None ms = Absent
 find_if (Some i) ms = find i ms
 
 -- whether the numbers of the members ascend from low on
@@ -92,10 +87,10 @@ are_ascending low [] = true
 are_ascending low (m ∷ ms) = nat_le low m.0 && are_ascending (m.0 + 1) ms
 
 -- the field of that name
-abbrev pub find_named : Parts → List ℕ → List (ℕ × Value) → Value
-find_named ps name ms = find_if (field_number ps name) ms
+abbrev pub find_named : Fields → List ℕ → List (ℕ × Value) → Value
+find_named fs name ms = find_if (field_number fs name) ms
 
 -- what the field that counts says, in a structure with these members
-abbrev pub count_in : Parts → List (ℕ × Value) → Counter → ℕ
-count_in ps ms (by_own name) = number (find_named ps name ms)
-count_in ps ms (by_inner name inner) = number (find_named (parts_inside (form_named ps name)) inner (members (find_named ps name ms)))
+abbrev pub count_in : Fields → List (ℕ × Value) → CountField → ℕ
+count_in fs ms (Own name) = number (find_named fs name ms)
+count_in fs ms (Inside name inner) = number (find_named (fields_inside (shape_named fs name)) inner (members (find_named fs name ms)))

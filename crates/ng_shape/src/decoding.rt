@@ -1,43 +1,22 @@
 // Values from bytes.
 ghost use Rattle.std.specs.Prelude.{◌≡◌, ◌++◌, [], length, IfOk, OnOk};
-ghost use Rattle.ng_shape.specs.declared.decoding.Stop.TheVariants.{NoMemory as out_of_memory};
-ghost use Rattle.ng_shape.specs.Forms.{form_of, parts_of, Fields};
-ghost use Rattle.ng_shape.specs.Values.{count_in, is_nil, members_of, value_of};
+ghost use Rattle.ng_shape.specs.Shape.{shape_of, fields_of, Struct};
+ghost use Rattle.ng_shape.specs.Values.{count_in, members_of, value_of};
 ghost use Rattle.ng_shape.specs.Layout.{counts_nothing, width as width_of};
 ghost use Rattle.ng_shape.specs.Following.{Follows};
-ghost use Rattle.ng_shape.specs.Decoding.{IsUnlessNoMemory, address_in, as_group, before_nul, given, group_value, has_other_than_zero, held, number_in, number_value, parts_read, row_in, text_in, value_from, value_in};
+ghost use Rattle.ng_shape.specs.Decoding.{IsUnlessNoMemory, address_in, as_group, before_nul, given, group_value, has_other_than_zero, take_exactly};
+ghost use Rattle.ng_shape.specs.Decoding.{number_in, number_value, read_fields, array_in, text_in, value_from, value_in};
 
 use crate::layout::{ADDRESS_LEN, end_gap, gap, width};
-use crate::members::count_seen;
+use crate::members::find_count;
 use crate::{BytesFault, Field, Member, Shape, Tree};
 use byteorder::{ByteOrder, LittleEndian};
-use ng_base::NoMemory;
-use std::alloc::{AllocError, Global};
+use ng_base::{NoMemory, Stop};
+use std::alloc::Global;
 
-/// Why reading ends.
-#[derive(Drop)]
-pub enum Stop {
-    /// So many bytes are missing.
-    Missing(u32),
-    /// Memory was wanted and there was none.
-    NoMemory,
-}
-
-impl From<AllocError> for Stop {
-    ghost from_gives = { λ _ stop. stop ≡ out_of_memory };
-
-    fn from(_: AllocError) -> Self {
-        Stop::NoMemory
-    }
-}
-
-impl From<NoMemory> for Stop {
-    ghost from_gives = { λ _ stop. stop ≡ out_of_memory };
-
-    fn from(_: NoMemory) -> Self {
-        Stop::NoMemory
-    }
-}
+/// So many bytes are missing.
+#[derive(Clone, Copy, Debug, PartialEq, Eq)]
+pub struct Missing(pub u32);
 
 /// The structure that a value stands in: its fields, the members that were read, and how many bytes
 /// there were from its front on.
@@ -48,15 +27,16 @@ struct Around<'a> {
     front: usize,
 }
 
-/// So many bytes, and those behind them.
-#[tactic(auto, unfolding(crate::specs::Decoding::held))]
-fn held(bytes: &[u8], count: u32) -> Result<(&[u8], &[u8]), Stop>
-    ensures held { Follows (λ x. (x.0.now, x.1.now)) result (held count bytes.now) }
+/// Takes so many bytes from the front, and leaves those behind them.
+#[tactic(auto, unfolding(crate::specs::Decoding::take_exactly))]
+fn take_exactly(bytes: &[u8], count: u32) -> Result<(&[u8], &[u8]), Stop<Missing>>
+    ensures take_exactly { Follows (λ x. (x.0.now, x.1.now)) result (take_exactly count bytes.now) }
     ensures len { IfOk result (λ x. length x.0.now ≡ count) }
 {
     let count = count as usize;
     if bytes.len() < count {
-        return Err(Stop::Missing((count - bytes.len()) as u32));
+        let missing = (count - bytes.len()) as u32;
+        return Err(Stop::Fault(Missing(missing)));
     }
     Ok(bytes.split_at(count))
 }
@@ -73,13 +53,13 @@ fn number_tree(value: u64) -> Tree
 
 /// An integer of so many bits, behind its padding.
 #[tactic(auto, unfolding(crate::specs::Decoding::number_in))]
-fn number_from(bytes: &[u8], front: usize, bits: u8) -> Result<(Tree, &[u8]), Stop>
+fn number_from(bytes: &[u8], front: usize, bits: u8) -> Result<(Tree, &[u8]), Stop<Missing>>
     ensures { Follows (λ x. (value_of x.0, x.1.now)) result (number_in (width_of bits) front bytes.now) }
 {
     let width = width(bits);
     let padding = gap(width, front.saturating_sub(bytes.len()));
-    let (_, rest) = held(bytes, padding as u32)?;
-    let (digits, rest) = held(rest, width as u32)?;
+    let (_, rest) = take_exactly(bytes, padding as u32)?;
+    let (digits, rest) = take_exactly(rest, width as u32)?;
     Ok((number_tree(LittleEndian::read_uint(digits, width)), rest))
 }
 
@@ -99,10 +79,10 @@ fn before_nul(text: &[u8]) -> &[u8]
 
 /// A string in so many bytes.
 #[tactic(auto, unfolding(crate::specs::Decoding::text_in))]
-fn text_from(alloc: Global, bytes: &[u8], len: u32) -> Result<(Tree, &[u8]), Stop>
+fn text_from(alloc: Global, bytes: &[u8], len: u32) -> Result<(Tree, &[u8]), Stop<Missing>>
     ensures { Follows (λ x. (value_of x.0, x.1.now)) result (text_in len bytes.now) }
 {
-    let (text, rest) = held(bytes, len)?;
+    let (text, rest) = take_exactly(bytes, len)?;
     let text = before_nul(text);
     if text.is_empty() {
         return Ok((Tree::Absent, rest));
@@ -118,10 +98,10 @@ fn has_other_than_zero(bytes: &[u8]) -> bool
 
 /// An Ethernet address.
 #[tactic(auto, unfolding(crate::specs::Decoding::address_in))]
-fn address_from(alloc: Global, bytes: &[u8]) -> Result<(Tree, &[u8]), Stop>
+fn address_from(alloc: Global, bytes: &[u8]) -> Result<(Tree, &[u8]), Stop<Missing>>
     ensures { Follows (λ x. (value_of x.0, x.1.now)) result (address_in bytes.now) }
 {
-    let (address, rest) = held(bytes, ADDRESS_LEN)?;
+    let (address, rest) = take_exactly(bytes, ADDRESS_LEN)?;
     if !has_other_than_zero(address) {
         return Ok((Tree::Absent, rest));
     }
@@ -141,17 +121,11 @@ fn group_tree(members: Vec<Member>) -> Tree
 fn push_given(members: &mut Vec<Member>, number: u64, tree: Tree) -> Result<(), NoMemory>
     ensures { OnOk result (members_of members.new.items ≡ members_of members.old.items ++ given number (value_of tree)) }
 {
-    if is_absent(&tree) {
+    if tree.is_absent() {
         return Ok(());
     }
     members.push(Member { number, tree })?;
     Ok(())
-}
-
-fn is_absent(tree: &Tree) -> bool
-    ensures { result ≡ is_nil (value_of tree.now) }
-{
-    matches!(tree, Tree::Absent)
 }
 
 /// A value from the front of the bytes, and the bytes behind it.
@@ -162,9 +136,9 @@ fn value_in<'a>(
     around: Around<'_>,
     shape: &Shape,
     bytes: &'a [u8],
-) -> Result<(Tree, &'a [u8]), Stop>
-    ensures { let counts = count_in (parts_of around.entry.fields.now) (members_of around.entry.members.now) in
-        Follows (λ x. (value_of x.0, x.1.now)) result (value_in (form_of shape.now) counts around.entry.front bytes.now) }
+) -> Result<(Tree, &'a [u8]), Stop<Missing>>
+    ensures { let counts = count_in (fields_of around.entry.fields.now) (members_of around.entry.members.now) in
+        Follows (λ x. (value_of x.0, x.1.now)) result (value_in (shape_of shape.now) counts around.entry.front bytes.now) }
 {
     match shape {
         Shape::Nothing => Ok((Tree::Absent, bytes)),
@@ -174,10 +148,16 @@ fn value_in<'a>(
         Shape::Str(len) => text_from(alloc, bytes, *len),
         Shape::Ether => address_from(alloc, bytes),
         Shape::Struct(fields) => structure_from(alloc, fields, bytes),
-        Shape::Array(count, element) => row_from(alloc, around, element, u64::from(*count), bytes),
+        Shape::Array(count, element) => array_from(
+            alloc,
+            around,
+            element,
+            u64::from(*count),
+            bytes,
+        ),
         Shape::Counted { by, element, .. } => {
-            let count = count_seen(around.fields, around.members, by);
-            row_from(alloc, around, element, count, bytes)
+            let count = find_count(around.fields, around.members, by);
+            array_from(alloc, around, element, count, bytes)
         }
     }
 }
@@ -189,25 +169,25 @@ fn structure_from<'a>(
     alloc: Global,
     fields: &[Field],
     bytes: &'a [u8],
-) -> Result<(Tree, &'a [u8]), Stop>
-    ensures { Follows (λ x. (value_of x.0, x.1.now)) result (value_in (Fields (parts_of fields.now)) counts_nothing 0 bytes.now) }
+) -> Result<(Tree, &'a [u8]), Stop<Missing>>
+    ensures { Follows (λ x. (value_of x.0, x.1.now)) result (value_in (Struct (fields_of fields.now)) counts_nothing 0 bytes.now) }
 {
     let (members, rest) = fields_from(alloc, fields, bytes)?;
     let padding = end_gap(fields, bytes.len().saturating_sub(rest.len()));
-    let (_, rest) = held(rest, padding as u32)?;
+    let (_, rest) = take_exactly(rest, padding as u32)?;
     Ok((group_tree(members), rest))
 }
 
 /// The fields of a structure.
 #[cycle(read)]
-#[tactic(auto, unfolding(crate::specs::Decoding::parts_read))]
+#[tactic(auto, unfolding(crate::specs::Decoding::read_fields))]
 fn fields_from<'a>(
     alloc: Global,
     fields: &[Field],
     bytes: &'a [u8],
-) -> Result<(Vec<Member>, &'a [u8]), Stop>
-    ensures { let parts = parts_of fields.now in
-        Follows (λ x. (members_of x.0.items, x.1.now)) result (parts_read parts parts 0 [] (length bytes.now) bytes.now) }
+) -> Result<(Vec<Member>, &'a [u8]), Stop<Missing>>
+    ensures { let fs = fields_of fields.now in
+        Follows (λ x. (members_of x.0.items, x.1.now)) result (read_fields fs fs 0 [] (length bytes.now) bytes.now) }
 {
     let mut members = Vec::new(alloc);
     let mut rest = bytes;
@@ -228,16 +208,16 @@ fn fields_from<'a>(
 
 /// So many elements.
 #[cycle(read)]
-#[tactic(auto, unfolding(crate::specs::Decoding::row_in))]
-fn row_from<'a>(
+#[tactic(auto, unfolding(crate::specs::Decoding::array_in))]
+fn array_from<'a>(
     alloc: Global,
     around: Around<'_>,
     element: &Shape,
     count: u64,
     bytes: &'a [u8],
-) -> Result<(Tree, &'a [u8]), Stop>
-    ensures { let counts = count_in (parts_of around.entry.fields.now) (members_of around.entry.members.now) in
-        Follows (λ x. (value_of x.0, x.1.now)) result (as_group (row_in (value_in (form_of element.now) counts around.entry.front) 0 count [] bytes.now)) }
+) -> Result<(Tree, &'a [u8]), Stop<Missing>>
+    ensures { let counts = count_in (fields_of around.entry.fields.now) (members_of around.entry.members.now) in
+        Follows (λ x. (value_of x.0, x.1.now)) result (as_group (array_in (value_in (shape_of element.now) counts around.entry.front) 0 count [] bytes.now)) }
 {
     let (members, rest) = elements_from(alloc, around, element, count, bytes)?;
     Ok((group_tree(members), rest))
@@ -245,22 +225,22 @@ fn row_from<'a>(
 
 /// The members of so many elements. Where an element takes no bytes all that follow are nothing too.
 #[cycle(read)]
-#[tactic(auto, unfolding(crate::specs::Decoding::row_in))]
+#[tactic(auto, unfolding(crate::specs::Decoding::array_in))]
 fn elements_from<'a>(
     alloc: Global,
     around: Around<'_>,
     element: &Shape,
     count: u64,
     bytes: &'a [u8],
-) -> Result<(Vec<Member>, &'a [u8]), Stop>
-    ensures { let counts = count_in (parts_of around.entry.fields.now) (members_of around.entry.members.now) in
-        Follows (λ x. (members_of x.0.items, x.1.now)) result (row_in (value_in (form_of element.now) counts around.entry.front) 0 count [] bytes.now) }
+) -> Result<(Vec<Member>, &'a [u8]), Stop<Missing>>
+    ensures { let counts = count_in (fields_of around.entry.fields.now) (members_of around.entry.members.now) in
+        Follows (λ x. (members_of x.0.items, x.1.now)) result (array_in (value_in (shape_of element.now) counts around.entry.front) 0 count [] bytes.now) }
 {
     let mut members = Vec::new(alloc);
     let mut rest = bytes;
     for number in 0..count {
         let (tree, after) = value_in(alloc, around, element, rest)?;
-        if is_absent(&tree) && after.len() == rest.len() {
+        if tree.is_absent() && after.len() == rest.len() {
             return Ok((members, rest));
         }
         push_given(&mut members, number, tree)?;
@@ -276,10 +256,10 @@ fn elements_from<'a>(
 /// # Errors
 /// The first of these that holds: `Short` where bytes are missing, with the place right behind the first
 /// integer, string, address or stretch of padding that isn't there whole, and the number of bytes;
-/// `Trailing` with how many bytes are left over; or `NoMemory` for want of memory alone.
+/// `Trailing` with how many bytes are left over. `NoMemory` comes where memory runs out, and then alone.
 #[tactic(auto, unfolding(crate::specs::Decoding::value_from))]
 pub fn read_bytes(alloc: Global, shape: &Shape, bytes: &[u8]) -> Result<Tree, BytesFault>
-    ensures { IsUnlessNoMemory value_of result (value_from (form_of shape.now) bytes.now) }
+    ensures { IsUnlessNoMemory value_of result (value_from (shape_of shape.now) bytes.now) }
 {
     let around = Around {
         fields: &[],
@@ -293,7 +273,7 @@ pub fn read_bytes(alloc: Global, shape: &Shape, bytes: &[u8]) -> Result<Tree, By
             }
             Ok(tree)
         }
-        Err(Stop::Missing(missing)) => Err(BytesFault::Short {
+        Err(Stop::Fault(Missing(missing))) => Err(BytesFault::Short {
             need: bytes.len() + missing as usize,
             had: bytes.len(),
         }),

@@ -21,7 +21,7 @@ pub enum BytesFault {
     /// So many bytes are left over.
     #[error("{0} bytes left over")]
     Trailing(usize),
-    /// Memory was wanted and there was none.
+    /// Memory was asked for and there was none.
     #[error("out of memory")]
     NoMemory,
 }

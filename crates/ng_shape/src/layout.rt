@@ -1,12 +1,11 @@
 // Values as bytes.
 ghost use Rattle.std.specs.Prelude.{◌≡◌, ◌≤◌, ◌<◌, ◌+◌, ◌-◌, ◌++◌, ℕ, true, vec_len, IfOk, OnOk};
-ghost use Rattle.ng_shape.specs.Forms.{form_of, parts_of};
+ghost use Rattle.ng_shape.specs.Shape.{shape_of, fields_of};
 ghost use Rattle.ng_shape.specs.Values.{are_ascending, count_in, find, members, members_of, number, value_of, value_seen};
-ghost use Rattle.ng_shape.specs.Layout.{bytes_of, closed, ends_counted, end_gap, gap, layout, number_bytes, parts_bytes, row_bytes, text_bytes, widest, widest_part, width, zeros};
+ghost use Rattle.ng_shape.specs.Layout.{bytes_of, pad_end, ends_counted, end_gap, gap, layout, number_bytes, fields_bytes, array_bytes, text_bytes};
+ghost use Rattle.ng_shape.specs.Layout.{widest, widest_field, width, zeros};
 
-use crate::members::{
-    are_ascending, chars_seen, count_seen, find_member, members_seen, number_seen,
-};
+use crate::members::{are_ascending, find_count, find_member};
 use crate::sound::is_counted;
 use crate::{Field, Member, Shape, Tree};
 use ng_base::NoMemory;
@@ -40,7 +39,7 @@ pub fn width(bits: u8) -> usize
 /// The bytes of the widest integer in a shape.
 #[cycle(widest)]
 fn widest(shape: &Shape) -> usize
-    ensures widest { result ≡ widest (form_of shape.now) }
+    ensures widest { result ≡ widest (shape_of shape.now) }
     ensures low { 0 < result }
     ensures high { result ≤ 8 }
 {
@@ -59,7 +58,7 @@ fn widest(shape: &Shape) -> usize
 
 #[cycle(widest)]
 fn widest_field(fields: &[Field]) -> usize
-    ensures widest { result ≡ widest_part (parts_of fields.now) }
+    ensures widest { result ≡ widest_field (fields_of fields.now) }
     ensures low { 0 < result }
     ensures high { result ≤ 8 }
 {
@@ -82,7 +81,7 @@ pub fn gap(width: usize, at: usize) -> usize
 
 /// How many bytes of padding stand at the end of a structure whose fields take `size` bytes.
 pub fn end_gap(fields: &[Field], size: usize) -> usize
-    ensures gap { result ≡ end_gap (parts_of fields.now) size }
+    ensures gap { result ≡ end_gap (fields_of fields.now) size }
     ensures high { result ≤ 7 }
 {
     if ends_counted(fields) {
@@ -93,7 +92,7 @@ pub fn end_gap(fields: &[Field], size: usize) -> usize
 
 /// Whether the last field is a counted array.
 fn ends_counted(fields: &[Field]) -> bool
-    ensures { result ≡ ends_counted (parts_of fields.now) }
+    ensures { result ≡ ends_counted (fields_of fields.now) }
 {
     match fields {
         [] => false,
@@ -146,36 +145,35 @@ fn put(
     tree: Option<&Tree>,
 ) -> Result<(), NoMemory>
     requires { within.front ≤ vec_len out.old }
-    ensures { let counts = count_in (parts_of within.entry.fields.now) (members_of within.entry.members.now) in
-        OnOk result (out.new.items ≡ out.old.items ++ layout (form_of shape.now) counts (value_seen tree.entry) (vec_len out.old - within.entry.front)) }
+    ensures { let counts = count_in (fields_of within.entry.fields.now) (members_of within.entry.members.now) in
+        OnOk result (out.new.items ≡ out.old.items ++
+        layout (shape_of shape.now) counts (value_seen tree.entry) (vec_len out.old - within.entry.front)) }
 {
     let front = within.front;
     match shape {
         Shape::Nothing => Ok(()),
-        Shape::UInt(bits) => put_number(out, front, *bits, number_seen(tree)),
-        Shape::Int(bits) => put_number(out, front, *bits, number_seen(tree)),
-        Shape::Hex(bits) => put_number(out, front, *bits, number_seen(tree)),
-        Shape::Str(len) => put_text(out, *len, chars_seen(tree)),
-        Shape::Ether => put_text(out, ADDRESS_LEN, chars_seen(tree)),
-        Shape::Struct(fields) => put_structure(out, fields, members_seen(tree)),
-        Shape::Array(count, element) => {
-            put_row(out, within, element, u64::from(*count), members_seen(tree))
-        }
+        Shape::UInt(bits) => put_number(out, front, *bits, tree.map_or(0, Tree::number)),
+        Shape::Int(bits) => put_number(out, front, *bits, tree.map_or(0, Tree::number)),
+        Shape::Hex(bits) => put_number(out, front, *bits, tree.map_or(0, Tree::number)),
+        Shape::Str(len) => put_text(out, *len, tree.map(Tree::chars).unwrap_or(&[])),
+        Shape::Ether => put_text(out, ADDRESS_LEN, tree.map(Tree::chars).unwrap_or(&[])),
+        Shape::Struct(fields) => put_structure(out, fields, tree),
+        Shape::Array(count, element) => { put_array(out, within, element, u64::from(*count), tree) }
         Shape::Counted { by, element, .. } => {
-            let count = count_seen(within.fields, within.members, by);
-            put_row(out, within, element, count, members_seen(tree))
+            let count = find_count(within.fields, within.members, by);
+            put_array(out, within, element, count, tree)
         }
     }
 }
 
 /// Appends a structure, with the padding at its end.
 #[cycle(put)]
-fn put_structure(out: &mut Vec<u8>, fields: &[Field], members: &[Member]) -> Result<(), NoMemory>
-    ensures { let parts = parts_of fields.now in let ms = members_of members.now in
-        OnOk result (out.new.items ≡ out.old.items ++ closed parts (parts_bytes parts (count_in parts ms) ms 0 0)) }
+fn put_structure(out: &mut Vec<u8>, fields: &[Field], tree: Option<&Tree>) -> Result<(), NoMemory>
+    ensures { let fs = fields_of fields.now in let ms = members (value_seen tree.entry) in
+        OnOk result (out.new.items ≡ out.old.items ++ pad_end fs (fields_bytes fs (count_in fs ms) ms 0 0)) }
 {
     let front = out.len();
-    put_fields(out, fields, members)?;
+    put_fields(out, fields, tree.map(Tree::members).unwrap_or(&[]))?;
     let size = out.len() - front;
     put_zeros(out, end_gap(fields, size))
 }
@@ -183,8 +181,8 @@ fn put_structure(out: &mut Vec<u8>, fields: &[Field], members: &[Member]) -> Res
 /// Appends the fields of a structure, which begins here.
 #[cycle(put)]
 fn put_fields(out: &mut Vec<u8>, fields: &[Field], members: &[Member]) -> Result<(), NoMemory>
-    ensures { let parts = parts_of fields.now in let ms = members_of members.now in
-        OnOk result (out.new.items ≡ out.old.items ++ parts_bytes parts (count_in parts ms) ms 0 0) }
+    ensures { let fs = fields_of fields.now in let ms = members_of members.now in
+        OnOk result (out.new.items ≡ out.old.items ++ fields_bytes fs (count_in fs ms) ms 0 0) }
 {
     let within = Within {
         fields,
@@ -201,17 +199,19 @@ fn put_fields(out: &mut Vec<u8>, fields: &[Field], members: &[Member]) -> Result
 
 /// Appends elements, each behind the other.
 #[cycle(put)]
-fn put_row(
+fn put_array(
     out: &mut Vec<u8>,
     within: Within<'_>,
     element: &Shape,
     count: u64,
-    members: &[Member],
+    tree: Option<&Tree>,
 ) -> Result<(), NoMemory>
     requires { within.front ≤ vec_len out.old }
-    ensures { let counts = count_in (parts_of within.entry.fields.now) (members_of within.entry.members.now) in
-        OnOk result (out.new.items ≡ out.old.items ++ row_bytes (layout (form_of element.now) counts) (members_of members.now) 0 count (vec_len out.old - within.entry.front)) }
+    ensures { let counts = count_in (fields_of within.entry.fields.now) (members_of within.entry.members.now) in
+        OnOk result (out.new.items ≡ out.old.items ++
+        array_bytes (layout (shape_of element.now) counts) (members (value_seen tree.entry)) 0 count (vec_len out.old - within.entry.front)) }
 {
+    let members = tree.map(Tree::members).unwrap_or(&[]);
     if are_ascending(members) {
         put_ascending(out, within, element, count, members)
     } else {
@@ -230,8 +230,9 @@ fn put_ascending(
 ) -> Result<(), NoMemory>
     requires front { within.front ≤ vec_len out.old }
     requires ascending { are_ascending 0 (members_of members.now) ≡ true }
-    ensures { let counts = count_in (parts_of within.entry.fields.now) (members_of within.entry.members.now) in
-        OnOk result (out.new.items ≡ out.old.items ++ row_bytes (layout (form_of element.now) counts) (members_of members.now) 0 count (vec_len out.old - within.entry.front)) }
+    ensures { let counts = count_in (fields_of within.entry.fields.now) (members_of within.entry.members.now) in
+        OnOk result (out.new.items ≡ out.old.items ++
+        array_bytes (layout (shape_of element.now) counts) (members_of members.now) 0 count (vec_len out.old - within.entry.front)) }
 {
     let mut rest = members;
     for number in 0..count {
@@ -252,8 +253,9 @@ fn put_any(
     members: &[Member],
 ) -> Result<(), NoMemory>
     requires { within.front ≤ vec_len out.old }
-    ensures { let counts = count_in (parts_of within.entry.fields.now) (members_of within.entry.members.now) in
-        OnOk result (out.new.items ≡ out.old.items ++ row_bytes (layout (form_of element.now) counts) (members_of members.now) 0 count (vec_len out.old - within.entry.front)) }
+    ensures { let counts = count_in (fields_of within.entry.fields.now) (members_of within.entry.members.now) in
+        OnOk result (out.new.items ≡ out.old.items ++
+        array_bytes (layout (shape_of element.now) counts) (members_of members.now) 0 count (vec_len out.old - within.entry.front)) }
 {
     for number in 0..count {
         put(out, within, element, find_member(members, number))?;
@@ -286,9 +288,9 @@ fn front_member(members: &[Member], number: u64) -> (Option<&Tree>, &[Member])
 /// array has as many elements as the value of the field that counts says.
 ///
 /// # Errors
-/// `NoMemory` for want of memory alone.
+/// `NoMemory` where memory runs out.
 pub fn lay_out(alloc: Global, shape: &Shape, tree: &Tree) -> Result<Vec<u8>, NoMemory>
-    ensures bytes { IfOk result (λ bytes. bytes.items ≡ bytes_of (form_of shape.now) (value_of tree.now)) }
+    ensures bytes { IfOk result (λ bytes. bytes.items ≡ bytes_of (shape_of shape.now) (value_of tree.now)) }
 {
     let mut out = Vec::new(alloc);
     let nowhere = Within {

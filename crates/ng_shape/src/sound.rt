@@ -1,7 +1,8 @@
 // Whether a shape is one.
 ghost use Rattle.std.specs.Prelude.{◌≡◌, ◌^◌, ◌&&◌, nat_le, nat_lt};
-ghost use Rattle.ng_shape.specs.Forms.{counter_of, form_of, form_seen, parts_of};
-ghost use Rattle.ng_shape.specs.Shapes.{are_sound, can_count, counter_form, counts, counts_inside, depth, depth_of_parts, has_counts, has_field, has_names, has_width, is_counted, is_counted_well, is_shape, is_sound, is_word, is_word_byte, same_counter};
+ghost use Rattle.ng_shape.specs.Shape.{count_field_of, shape_of, shape_seen, fields_of};
+ghost use Rattle.ng_shape.specs.Sound.{are_sound, can_count, counter_shape, counts, counts_inside, depth, depth_of_fields, has_counts, has_field};
+ghost use Rattle.ng_shape.specs.Sound.{has_names, has_width, is_counted, is_counted_well, is_shape, is_sound, is_word, is_word_byte, same_counter};
 
 use crate::fields::{fields_inside, shape_named};
 use crate::{CountField, Field, Shape};
@@ -18,7 +19,7 @@ const LONGEST: u32 = 1 << 31;
 /// as great as `max` and counts no other array, and the shape is at most 16 deep, where one without
 /// structures and arrays is 1 deep.
 pub fn is_shape(shape: &Shape) -> bool
-    ensures { result ≡ is_shape (form_of shape.now) }
+    ensures { result ≡ is_shape (shape_of shape.now) }
 {
     !is_counted(shape) && is_sound(shape) && is_at_most(shape, DEEPEST)
 }
@@ -27,7 +28,7 @@ pub fn is_shape(shape: &Shape) -> bool
 pub fn is_word_byte(byte: u8) -> bool
     ensures { result ≡ is_word_byte byte }
 {
-    matches!(byte, b'0'..=b'9' | b'a'..=b'z' | b'A'..=b'Z' | b'_' | b'-' | b':')
+    byte.is_ascii_alphanumeric() || matches!(byte, b'_' | b'-' | b':')
 }
 
 fn is_word(name: &[u8]) -> bool
@@ -44,14 +45,14 @@ fn has_width(bits: u8) -> bool
 
 /// Whether it is a counted array.
 pub fn is_counted(shape: &Shape) -> bool
-    ensures { result ≡ is_counted (form_of shape.now) }
+    ensures { result ≡ is_counted (shape_of shape.now) }
 {
     matches!(shape, Shape::Counted { .. })
 }
 
 /// Whether the fields' names are different words.
 fn has_names(fields: &[Field]) -> bool
-    ensures { result ≡ has_names (parts_of fields.now) }
+    ensures { result ≡ has_names (fields_of fields.now) }
 {
     for (at, field) in fields.iter().enumerate() {
         let name = field.name.as_bytes();
@@ -63,7 +64,7 @@ fn has_names(fields: &[Field]) -> bool
 }
 
 fn has_field(name: &[u8], fields: &[Field]) -> bool
-    ensures { result ≡ has_field name.now (parts_of fields.now) }
+    ensures { result ≡ has_field name.now (fields_of fields.now) }
 {
     for field in fields {
         if field.name.as_bytes() == name {
@@ -75,7 +76,7 @@ fn has_field(name: &[u8], fields: &[Field]) -> bool
 
 /// Whether each counted array among the fields is counted by one of those before it.
 fn has_counts(fields: &[Field]) -> bool
-    ensures { result ≡ has_counts (parts_of fields.now) 0 (parts_of fields.now) }
+    ensures { result ≡ has_counts (fields_of fields.now) 0 (fields_of fields.now) }
 {
     for (at, field) in fields.iter().enumerate() {
         if !is_counted_well(&fields[..at], &field.shape) {
@@ -86,7 +87,7 @@ fn has_counts(fields: &[Field]) -> bool
 }
 
 fn is_counted_well(earlier: &[Field], shape: &Shape) -> bool
-    ensures { result ≡ is_counted_well (parts_of earlier.now) (form_of shape.now) }
+    ensures { result ≡ is_counted_well (fields_of earlier.now) (shape_of shape.now) }
 {
     match shape {
         Shape::Counted { by, max, .. } => {
@@ -100,7 +101,7 @@ fn is_counted_well(earlier: &[Field], shape: &Shape) -> bool
 
 /// What stands in the field that counts.
 fn counter_shape<'a>(fields: &'a [Field], by: &CountField) -> Option<&'a Shape>
-    ensures { form_seen result ≡ counter_form (parts_of fields.now) (counter_of by.now) }
+    ensures { shape_seen result ≡ counter_shape (fields_of fields.now) (count_field_of by.now) }
 {
     match by {
         CountField::Own(name) => shape_named(fields, name.as_bytes()),
@@ -112,7 +113,7 @@ fn counter_shape<'a>(fields: &'a [Field], by: &CountField) -> Option<&'a Shape>
 
 /// Whether it is an unsigned integer that can be as great as `max`.
 fn can_count(max: u32, shape: Option<&Shape>) -> bool
-    ensures { result ≡ can_count max (form_seen shape.entry) }
+    ensures { result ≡ can_count max (shape_seen shape.entry) }
 {
     match shape {
         Some(Shape::UInt(bits)) => is_below_power(max, *bits),
@@ -129,7 +130,7 @@ fn is_below_power(number: u32, power: u8) -> bool
 
 /// Whether one of the fields is an array that this field counts.
 fn counts(by: &CountField, fields: &[Field]) -> bool
-    ensures { result ≡ counts (counter_of by.now) (parts_of fields.now) }
+    ensures { result ≡ counts (count_field_of by.now) (fields_of fields.now) }
 {
     for field in fields {
         if let Shape::Counted { by: other, .. } = &field.shape
@@ -143,7 +144,7 @@ fn counts(by: &CountField, fields: &[Field]) -> bool
 
 /// Whether the field that counts, inside of a structure, counts an array in there.
 fn counts_inside(by: &CountField, fields: &[Field]) -> bool
-    ensures { result ≡ counts_inside (counter_of by.now) (parts_of fields.now) }
+    ensures { result ≡ counts_inside (count_field_of by.now) (fields_of fields.now) }
 {
     match by {
         CountField::Own(_) => false,
@@ -155,7 +156,7 @@ fn counts_inside(by: &CountField, fields: &[Field]) -> bool
 }
 
 fn same_counter(by: &CountField, other: &CountField) -> bool
-    ensures { result ≡ same_counter (counter_of by.now) (counter_of other.now) }
+    ensures { result ≡ same_counter (count_field_of by.now) (count_field_of other.now) }
 {
     match (by, other) {
         (CountField::Own(name), CountField::Own(other)) => name.as_bytes() == other.as_bytes(),
@@ -169,7 +170,7 @@ fn same_counter(by: &CountField, other: &CountField) -> bool
 /// Whether all that a shape is made of is as it must be.
 #[cycle(sound)]
 fn is_sound(shape: &Shape) -> bool
-    ensures { result ≡ is_sound (form_of shape.now) }
+    ensures { result ≡ is_sound (shape_of shape.now) }
 {
     match shape {
         Shape::Nothing => true,
@@ -186,14 +187,14 @@ fn is_sound(shape: &Shape) -> bool
 
 #[cycle(sound)]
 fn is_structure(fields: &[Field]) -> bool
-    ensures { let parts = parts_of fields.now in result ≡ (has_names parts && has_counts parts 0 parts && are_sound parts) }
+    ensures { let fs = fields_of fields.now in result ≡ (has_names fs && has_counts fs 0 fs && are_sound fs) }
 {
     has_names(fields) && has_counts(fields) && are_sound(fields)
 }
 
 #[cycle(sound)]
 fn are_sound(fields: &[Field]) -> bool
-    ensures { result ≡ are_sound (parts_of fields.now) }
+    ensures { result ≡ are_sound (fields_of fields.now) }
 {
     for field in fields {
         if !is_sound(&field.shape) {
@@ -206,7 +207,7 @@ fn are_sound(fields: &[Field]) -> bool
 /// Whether a shape is at most so deep.
 #[cycle(depth)]
 fn is_at_most(shape: &Shape, deepest: u8) -> bool
-    ensures { result ≡ nat_le (depth (form_of shape.now)) deepest }
+    ensures { result ≡ nat_le (depth (shape_of shape.now)) deepest }
 {
     if deepest == 0 {
         return false;
@@ -221,7 +222,7 @@ fn is_at_most(shape: &Shape, deepest: u8) -> bool
 
 #[cycle(depth)]
 fn are_at_most(fields: &[Field], deepest: u8) -> bool
-    ensures { result ≡ nat_le (depth_of_parts (parts_of fields.now)) deepest }
+    ensures { result ≡ nat_le (depth_of_fields (fields_of fields.now)) deepest }
 {
     for field in fields {
         if !is_at_most(&field.shape, deepest) {

@@ -1,4 +1,5 @@
-// Shapes, lengths and bytes that were worked out by hand.
+// Shapes, values and bytes that were worked out by hand.
+use crate::Shape;
 
 /// A field.
 macro_rules! field {
@@ -21,37 +22,8 @@ macro_rules! counted {
     };
 }
 
-mod layouts;
-mod readings;
-mod rows;
+mod faults;
 mod shapes;
+mod values;
 
-use crate::{Member, Tree};
-use std::alloc::Global;
-use std::test::Fail;
-
-/// A number that comes from no text.
-fn number(value: u64) -> Tree {
-    Tree::Number { left: 0, value }
-}
-
-/// A string or an address.
-fn text(alloc: Global, bytes: &[u8]) -> Result<Tree, Fail> {
-    Ok(Tree::Text(Vec::from_slice(alloc, bytes)?))
-}
-
-/// A group that has no member yet.
-fn group(alloc: Global) -> Vec<Member> {
-    Vec::new(alloc)
-}
-
-/// Adds a member to a group.
-fn add(members: &mut Vec<Member>, number: u64, tree: Tree) -> Result<(), Fail> {
-    members.push(Member { number, tree })?;
-    Ok(())
-}
-
-/// The group of these members.
-fn closed(members: Vec<Member>) -> Tree {
-    Tree::Group { left: 0, members }
-}
+const U8: Shape = Shape::UInt(8);

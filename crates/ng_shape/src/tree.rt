@@ -1,4 +1,6 @@
-// Values, as they are read from a text or from bytes.
+// Values, as they are read from a text or from bytes, and what can be read off them.
+ghost use Rattle.std.specs.Prelude.{◌≡◌};
+ghost use Rattle.ng_shape.specs.Values.{chars, is_absent, members, members_of, number, value_of};
 
 /// A value of a shape.
 #[cycle(tree)]
@@ -32,4 +34,43 @@ pub struct Member {
     pub number: u64,
     /// Its value.
     pub tree: Tree,
+}
+
+impl Tree {
+    /// Whether nothing was given.
+    pub fn is_absent(&self) -> bool
+        ensures { result ≡ is_absent (value_of self.now) }
+    {
+        matches!(self, Tree::Absent)
+    }
+
+    /// The number that a value is; 0 where it is none.
+    pub fn number(&self) -> u64
+        ensures { result ≡ number (value_of self.now) }
+    {
+        match self {
+            Tree::Number { value, .. } => *value,
+            _ => 0,
+        }
+    }
+
+    /// The bytes of the string or of the address that a value is; none where it is neither.
+    pub fn chars(&self) -> &[u8]
+        ensures { result.now ≡ chars (value_of self.now) }
+    {
+        match self {
+            Tree::Text(bytes) => bytes,
+            _ => &[],
+        }
+    }
+
+    /// The members of a group, in the order in which they were given; none where a value is no group.
+    pub fn members(&self) -> &[Member]
+        ensures { members_of result.now ≡ members (value_of self.now) }
+    {
+        match self {
+            Tree::Group { members, .. } => members,
+            _ => &[],
+        }
+    }
 }

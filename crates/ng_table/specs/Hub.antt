@@ -1,6 +1,6 @@
 -- ng_hub(4).
 use Rattle.std.specs.Prelude.{List, [], ◌∷◌, codes}
-use Rattle.ng_table.specs.Message.{Message, none}
+use Rattle.ng_table.specs.Message.{Message, message, none}
 
 abbrev pub hub_messages : List Message
-hub_messages = record { name = codes "setpersistent"; number = 1; args = none; answer = none } ∷ []
+hub_messages = message (codes "setpersistent") 1 none none ∷ []

@@ -3,9 +3,9 @@ use Rattle.std.specs.Prelude.{◌≡◌, ℕ, ◌/◌, ◌%◌, Bool, true, fals
 use Rattle.std.specs.List.{list_any, AllByRecursion}
 use Rattle.std.specs.Str.{bytes_eq}
 use Rattle.ng_base.specs.declared.kind.Kind.{Kind}
-use Rattle.ng_shape.specs.Forms.{Form, Empty}
-use Rattle.ng_shape.specs.Shapes.{IsShape}
-use Rattle.ng_table.specs.Message.{Message, reads, answered}
+use Rattle.ng_shape.specs.Shape.{Shape, Nothing}
+use Rattle.ng_shape.specs.Sound.{IsShape}
+use Rattle.ng_table.specs.Message.{Message, read_only, has_answer}
 use Rattle.ng_table.specs.Cookie.{generic_cookie, cookie_of}
 use Rattle.ng_table.specs.Generic.{generic_messages}
 use Rattle.ng_table.specs.Table.{messages_of, find_name, find_number}
@@ -24,8 +24,8 @@ ShapesAreShapes = OfEach HasShapes
 abbrev pub has_bit : ℕ → Message → Bool
 has_bit bit message = message.number / bit % 2 == 1
 
-abbrev pub is_nothing : Form → Bool
-is_nothing Empty = true
+abbrev pub is_nothing : Shape → Bool
+is_nothing Nothing = true
 is_nothing _ = false
 
 -- three messages would be answered, and are refused by every node
@@ -35,9 +35,9 @@ is_refused message = list_any (λ name. bytes_eq name message.name) (codes "text
 -- the bit of an answer stands where there is one, or would be; a message that changes nothing has it; and below the
 -- bits the number is small
 pub record TellsOfAnswer (message : Message) : Type 0 where
-  pub answer : has_bit answered message ≡ not (is_nothing message.answer) || is_refused message
-  pub reader : has_bit reads message && not (has_bit answered message) ≡ false
-  pub small : nat_lt 0 (message.number % reads) && nat_lt (message.number % reads) 15 ≡ true
+  pub answer : has_bit has_answer message ≡ not (is_nothing message.answer) || is_refused message
+  pub reader : has_bit read_only message && not (has_bit has_answer message) ≡ false
+  pub small : nat_lt 0 (message.number % read_only) && nat_lt (message.number % read_only) 15 ≡ true
 
 abbrev pub NumbersTellOfAnswers : Type 0
 NumbersTellOfAnswers = OfEach TellsOfAnswer
@@ -61,7 +61,9 @@ IsFoundAt kind message = (find_name kind message.name ≡ Some (cookie_of kind, 
 
 -- a message that all nodes know is found by its name at every type, and by its cookie and number
 abbrev pub IsFoundEverywhere : Message → Type 0
-IsFoundEverywhere message = ((kind : Kind) → find_name kind message.name ≡ Some (generic_cookie, message)) × (find_number generic_cookie message.number ≡ Some message)
+IsFoundEverywhere message =
+    ((kind : Kind) → find_name kind message.name ≡ Some (generic_cookie, message))
+    × (find_number generic_cookie message.number ≡ Some message)
 
 abbrev pub RowsAreFound : Type 0
 RowsAreFound = AllByRecursion IsFoundEverywhere generic_messages × ((kind : Kind) → AllByRecursion (IsFoundAt kind) (messages_of kind))

@@ -9,5 +9,7 @@ pub mod Vlan
 pub mod Patch
 pub mod Bpf
 pub mod Ether
+pub mod Etf
+pub mod Macset
 pub mod Table
 pub mod Laws

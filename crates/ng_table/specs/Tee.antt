@@ -1,14 +1,14 @@
 -- ng_tee(4).
 use Rattle.std.specs.Prelude.{List, [], ◌∷◌, ◌+◌, codes}
-use Rattle.ng_shape.specs.Forms.{Form}
-use Rattle.ng_table.specs.Message.{Message, answered, none, u64, structure}
+use Rattle.ng_shape.specs.Shape.{Shape}
+use Rattle.ng_table.specs.Message.{Message, message, has_answer, none, structure, counters}
 
 -- struct ng_tee_hookstat
-abbrev pub tee_hook_stats : Form
-tee_hook_stats = structure ((codes "inOctets", u64) ∷ (codes "inFrames", u64) ∷ (codes "outOctets", u64) ∷ (codes "outFrames", u64) ∷ [])
+abbrev pub tee_hook_stats : Shape
+tee_hook_stats = counters (codes "inOctets" ∷ codes "inFrames" ∷ codes "outOctets" ∷ codes "outFrames" ∷ [])
 
 -- struct ng_tee_stats
-abbrev pub tee_stats : Form
+abbrev pub tee_stats : Shape
 tee_stats = structure (
     (codes "right", tee_hook_stats)
     ∷ (codes "left", tee_hook_stats)
@@ -18,7 +18,7 @@ tee_stats = structure (
 
 abbrev pub tee_messages : List Message
 tee_messages =
-    record { name = codes "getstats"; number = 1 + answered; args = none; answer = tee_stats }
-    ∷ record { name = codes "clrstats"; number = 2; args = none; answer = none }
-    ∷ record { name = codes "getclrstats"; number = 3 + answered; args = none; answer = tee_stats }
+    message (codes "getstats") (1 + has_answer) none tee_stats
+    ∷ message (codes "clrstats") 2 none none
+    ∷ message (codes "getclrstats") (3 + has_answer) none tee_stats
     ∷ []

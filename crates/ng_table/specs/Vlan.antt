@@ -1,20 +1,22 @@
 -- ng_vlan(4).
 use Rattle.std.specs.Prelude.{List, [], ◌∷◌, ◌+◌, codes}
-use Rattle.ng_shape.specs.Forms.{Form}
-use Rattle.ng_table.specs.Message.{Message, reads, answered, none, u16, u32, s32, structure, counted_by}
+use Rattle.ng_shape.specs.Shape.{Shape}
+use Rattle.ng_table.specs.Message.{Message, message, read_only, has_answer, none, u8, u16, u32, x32, s32, structure, counted_by}
 
--- struct ng_vlan_filter
-abbrev pub vlan_filter : Form
-vlan_filter = structure ((codes "hook", s32) ∷ (codes "vlan", u16) ∷ [])
+-- struct ng_vlan_filter, with the priority bits of IEEE 802.1Q
+abbrev pub vlan_filter : Shape
+vlan_filter = structure ((codes "hook", s32) ∷ (codes "vlan", u16) ∷ (codes "pcp", u8) ∷ (codes "cfi", u8) ∷ [])
 
 -- struct ng_vlan_table
-abbrev pub vlan_table : Form
+abbrev pub vlan_table : Shape
 vlan_table = structure ((codes "n", u32) ∷ (codes "filter", counted_by (codes "n") 4096 vlan_filter) ∷ [])
 
--- a filter is deleted by the name of its hook
+-- A filter is deleted by the name of its hook. The last two, of the tag's type, are this project's own.
 abbrev pub vlan_messages : List Message
 vlan_messages =
-    record { name = codes "addfilter"; number = 1; args = vlan_filter; answer = none }
-    ∷ record { name = codes "delfilter"; number = 2; args = s32; answer = none }
-    ∷ record { name = codes "gettable"; number = 3 + reads + answered; args = none; answer = vlan_table }
+    message (codes "addfilter") 1 vlan_filter none
+    ∷ message (codes "delfilter") 2 s32 none
+    ∷ message (codes "gettable") (3 + read_only + has_answer) none vlan_table
+    ∷ message (codes "settagtype") 4 x32 none
+    ∷ message (codes "gettagtype") (5 + read_only + has_answer) none x32
     ∷ []

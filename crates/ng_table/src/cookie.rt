@@ -4,9 +4,6 @@ ghost use Rattle.ng_table.specs.Cookie.{cookie_of, kind_with};
 
 use ng_base::Kind;
 
-/// The cookie of the messages that all nodes know (`NGM_GENERIC_COOKIE` of ng_message.h).
-pub const GENERIC_COOKIE: u32 = 1_137_070_366;
-
 const HUB: u32 = 0x4e47_0001;
 
 const HOLE: u32 = 0x4e47_0002;
@@ -31,6 +28,10 @@ const ETHER: u32 = 0x4e47_000b;
 
 const SOCKET: u32 = 0x4e47_000c;
 
+const ETF: u32 = 0x4e47_000d;
+
+const MACSET: u32 = 0x4e47_000e;
+
 /// The cookie of the messages of a type of node. The numbers are this project's own.
 pub fn cookie_of(kind: Kind) -> u32
     ensures { result ≡ cookie_of kind }
@@ -48,6 +49,8 @@ pub fn cookie_of(kind: Kind) -> u32
         Kind::Bpf => BPF,
         Kind::Ether => ETHER,
         Kind::Socket => SOCKET,
+        Kind::Etf => ETF,
+        Kind::Macset => MACSET,
     }
 }
 
@@ -68,6 +71,8 @@ pub(crate) fn kind_with(cookie: u32) -> Option<Kind>
         BPF => Some(Kind::Bpf),
         ETHER => Some(Kind::Ether),
         SOCKET => Some(Kind::Socket),
+        ETF => Some(Kind::Etf),
+        MACSET => Some(Kind::Macset),
         _ => None,
     }
 }

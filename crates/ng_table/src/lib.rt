@@ -11,9 +11,9 @@ mod rows;
 #[cfg(test)]
 mod tests;
 
-pub use cookie::{GENERIC_COOKIE, cookie_of};
+pub use cookie::cookie_of;
 pub use find::{find_name, find_number};
 pub use laws::{
     numbers_and_names_differ, numbers_tell_of_answers, rows_are_found, shapes_are_shapes,
 };
-pub use row::{HAS_ANSWER, READ_ONLY, Row};
+pub use row::Row;

@@ -5,9 +5,11 @@ ghost use Rattle.ng_table.specs.Table.{messages_of};
 
 mod bpf;
 mod bridge;
+mod etf;
 mod ether;
 pub(crate) mod generic;
 mod hub;
+mod macset;
 mod one2many;
 mod patch;
 mod tee;
@@ -45,6 +47,8 @@ pub(crate) fn rows_of(kind: Kind) -> &'static [Row]
         Kind::Patch => patch::rows(),
         Kind::Bpf => bpf::rows(),
         Kind::Ether => ether::rows(),
+        Kind::Etf => etf::rows(),
+        Kind::Macset => macset::rows(),
         Kind::Hole | Kind::Echo | Kind::Split | Kind::Socket => &[],
     }
 }

@@ -5,7 +5,7 @@ use Rattle.std.proofs.lemmas.List.{take_all, take_more}
 use Rattle.std.proofs.lemmas.List.Concat.{flat_map-append}
 use Rattle.std.specs.List.{flat_map}
 use Rattle.ng_outside.specs.Count.{Rose}
-use Rattle.ng_outside.specs.Write.{Appends-front, AppendsFront-more}
+use Rattle.ng_outside.specs.Write.{Appends-prefix, AppendsPrefix-more}
 use Rattle.ngctl_print.specs.Prints.{Prints}
 use Rattle.ngctl_print.specs.declared.stop.PrintStop.{PrintStop}
 
@@ -20,7 +20,7 @@ printed_more old now next f0 f1 f2 (Ok x) text more first second = record {
 }
 printed_more old now next f0 f1 f2 (Err stop) text more first second = record {
   whole = tt;
-  front = Appends-front old now next text more first.whole second.front;
+  front = Appends-prefix old now next text more first.whole second.front;
   counts = let a : f0 ≤ f1 = first.counts in let b : f1 ≤ f2 = second.counts in omega arith;
   cause = λ e. let a : f0 ≤ f1 = first.counts in let rose : Rose f1 f2 = second.cause e in omega (arith, rose);
 }
@@ -30,7 +30,7 @@ pub stopped_before : (old now : Option (List ℕ)) (f0 f1 : ℕ) (stop : PrintSt
     → Prints old now f0 f1 (Err stop) text → Prints old now f0 f1 (Err stop) (text ++ more)
 stopped_before old now f0 f1 stop text more first = record {
   whole = tt;
-  front = AppendsFront-more old now text more first.front;
+  front = AppendsPrefix-more old now text more first.front;
   counts = first.counts;
   cause = first.cause;
 }

@@ -6,8 +6,8 @@ use Rattle.std.proofs.lemmas.List.FromFn.{get_or-range_with_len}
 use Rattle.std.specs.List.{range_with_len}
 
 -- rows count from 0
-pub row_at : (rows row : ℕ) → row < rows → get_or (range_with_len 0 rows) row 0 ≡ row
-row_at rows row inside = get_or-range_with_len 0 rows row 0 inside ∙ zero-add row
+pub node_at : (rows row : ℕ) → row < rows → get_or (range_with_len 0 rows) row 0 ≡ row
+node_at rows row inside = get_or-range_with_len 0 rows row 0 inside ∙ zero-add row
 
 -- sixteen bytes, or what is left
 pub row_bytes : (packet : List ℕ) (at end : ℕ) → end ≡ min (length packet) (at + 16) → take (end - at) (drop at packet) ≡ take 16 (drop at packet)

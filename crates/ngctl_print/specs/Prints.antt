@@ -3,7 +3,7 @@
 use Rattle.std.specs.Prelude.{ℕ, ◌≤◌, List, Option, Result, OnOk, OnErr, IsErrOf}
 use Rattle.std.specs.Io.KnownBytes.{Appends}
 use Rattle.ng_outside.specs.Count.{Rose}
-use Rattle.ng_outside.specs.Write.{AppendsFront}
+use Rattle.ng_outside.specs.Write.{AppendsPrefix}
 use Rattle.ngctl_print.specs.declared.stop.PrintStop.{PrintStop}
 use Rattle.ngctl_print.specs.declared.stop.PrintStop.TheVariants.{Fault}
 
@@ -11,6 +11,6 @@ use Rattle.ngctl_print.specs.declared.stop.PrintStop.TheVariants.{Fault}
 -- sink has counted one
 pub record Prints (old new : Option (List ℕ)) (before after : ℕ) (result : Result (Unit {0}) PrintStop) (text : List ℕ) : Type 0 where
   pub whole : OnOk result (Appends old new text)
-  pub front : OnErr result (AppendsFront old new text)
+  pub front : OnErr result (AppendsPrefix old new text)
   pub counts : before ≤ after
   pub cause : IsErrOf result Fault → Rose before after

@@ -62,7 +62,7 @@ fn print_row<O: Sink>(
 ) -> Result<(), PrintStop>
     requires short { length packet.now ≤ 262144 }
     requires inside { 16 * row < length packet.now }
-    ensures { Prints (O.held out.old) (O.held out.new) (O.faults out.old) (O.faults out.new) result (row_text packet.now row) }
+    ensures { Prints (O.contents out.old) (O.contents out.new) (O.faults out.old) (O.faults out.new) result (row_text packet.now row) }
 {
     let at = ROW * row;
     let end = packet.len().min(at + ROW);
@@ -80,7 +80,7 @@ pub(crate) fn print_dump<O: Sink>(
     out: &mut O,
 ) -> Result<(), PrintStop>
     requires { length packet.now ≤ 262144 }
-    ensures { Prints (O.held out.old) (O.held out.new) (O.faults out.old) (O.faults out.new) result (dump packet.now) }
+    ensures { Prints (O.contents out.old) (O.contents out.new) (O.faults out.old) (O.faults out.new) result (dump packet.now) }
 {
     for row in 0..packet.len().div_ceil(ROW) {
         print_row(alloc, packet, row, out)?;

@@ -97,7 +97,7 @@ pub fn print_summary<O: Sink>(
     stopped: bool,
     out: &mut O,
 ) -> Result<(), PrintStop>
-    ensures { Prints (O.held out.old) (O.held out.new) (O.faults out.old) (O.faults out.new) result (summary_text totals.now fed of stopped) }
+    ensures { Prints (O.contents out.old) (O.contents out.new) (O.faults out.old) (O.faults out.new) result (summary_text totals.now fed of stopped) }
 {
     let lines = summary_lines(alloc, totals, fed, of, stopped)?;
     for line in &lines {

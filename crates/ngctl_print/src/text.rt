@@ -29,7 +29,7 @@ pub fn print_text<O: Sink>(
     out: &mut O,
 ) -> Result<(), PrintStop>
     requires { AllToldFit told.now }
-    ensures { Prints (O.held out.old) (O.held out.new) (O.faults out.old) (O.faults out.new) result (text_of script.now told.now totals.now fed of stopped) }
+    ensures { Prints (O.contents out.old) (O.contents out.new) (O.faults out.old) (O.faults out.new) result (text_of script.now told.now totals.now fed of stopped) }
 {
     print_all_told(alloc, script, told, out)?;
     print_summary(alloc, totals, fed, of, stopped, out)

@@ -57,7 +57,7 @@ fn frame_line(alloc: Global, hook: &Name) -> Result<String, AllocError>
 }
 
 fn print_line<O: Sink>(alloc: Global, line: &[u8], out: &mut O) -> Result<(), PrintStop>
-    ensures { Prints (O.held out.old) (O.held out.new) (O.faults out.old) (O.faults out.new) result (command_line line.now) }
+    ensures { Prints (O.contents out.old) (O.contents out.new) (O.faults out.old) (O.faults out.new) result (command_line line.now) }
 {
     let text = command_line(alloc, line)?;
     put_line(out, text.as_slice())
@@ -69,7 +69,7 @@ fn print_refused<O: Sink>(
     why: &[u8],
     out: &mut O,
 ) -> Result<(), PrintStop>
-    ensures { Prints (O.held out.old) (O.held out.new) (O.faults out.old) (O.faults out.new) result (refused_line errno why.now) }
+    ensures { Prints (O.contents out.old) (O.contents out.new) (O.faults out.old) (O.faults out.new) result (refused_line errno why.now) }
 {
     let text = refused_line(alloc, errno, why)?;
     put_line(out, text.as_slice())
@@ -82,7 +82,7 @@ fn print_frame<O: Sink>(
     out: &mut O,
 ) -> Result<(), PrintStop>
     requires { length packet.now ≤ 262144 }
-    ensures { Prints (O.held out.old) (O.held out.new) (O.faults out.old) (O.faults out.new) result (frame_text hook.now packet.now) }
+    ensures { Prints (O.contents out.old) (O.contents out.new) (O.faults out.old) (O.faults out.new) result (frame_text hook.now packet.now) }
 {
     let head = frame_line(alloc, hook)?;
     put_line(out, head.as_bytes())?;
@@ -102,7 +102,7 @@ pub fn print_told<O: Sink>(
     out: &mut O,
 ) -> Result<(), PrintStop>
     requires { ToldFits told.now }
-    ensures { Prints (O.held out.old) (O.held out.new) (O.faults out.old) (O.faults out.new) result (told_text script.now told.now) }
+    ensures { Prints (O.contents out.old) (O.contents out.new) (O.faults out.old) (O.faults out.new) result (told_text script.now told.now) }
 {
     match told {
         Told::Line { command } => print_line(alloc, script.line(*command), out),
@@ -123,7 +123,7 @@ pub(crate) fn print_all_told<O: Sink>(
     out: &mut O,
 ) -> Result<(), PrintStop>
     requires { AllToldFit told.now }
-    ensures { Prints (O.held out.old) (O.held out.new) (O.faults out.old) (O.faults out.new) result (flat_map (told_text script.now) told.now) }
+    ensures { Prints (O.contents out.old) (O.contents out.new) (O.faults out.old) (O.faults out.new) result (flat_map (told_text script.now) told.now) }
 {
     for entry in told {
         print_told(alloc, script, entry, out)?;

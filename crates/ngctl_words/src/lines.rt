@@ -88,7 +88,7 @@ fn read_write(alloc: Global, line: &[u8], hook: &Name) -> Result<Option<What>, N
 }
 
 /// The hook of the node that commands come from, which `mkpeer . echo HOOK PEERHOOK` names.
-fn made_hook(what: &What) -> &Name
+fn add_hook(what: &What) -> &Name
     requires { IsEchoMade what.now }
     ensures { result.now ≡ hook_of what.now }
 {
@@ -105,7 +105,7 @@ fn read_line(alloc: Global, before: &[Command], line: &[u8]) -> Result<Option<Wh
 {
     match before.first() {
         None => read_mkpeer(alloc, line),
-        Some(first) => read_write(alloc, line, made_hook(&first.what)),
+        Some(first) => read_write(alloc, line, add_hook(&first.what)),
     }
 }
 

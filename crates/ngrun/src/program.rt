@@ -21,10 +21,10 @@ pub fn program<F: Files, O: Sink, E: Sink>(
     out: &mut O,
     errors: &mut E,
 ) -> u8
-    ensures ends { IsProgram (script_name (map (λ word. string_bytes word) words.now)) (F.held files.old) (F.faults files.old) (F.faults files.new)
-        (record { old = O.held out.old; now = O.held out.new; before = O.faults out.old; after = O.faults out.new })
-        (record { old = E.held errors.old; now = E.held errors.new; before = E.faults errors.old; after = E.faults errors.new }) result }
-    ensures files { F.held files.new ≡ F.held files.old }
+    ensures ends { IsProgram (script_name (map (λ word. string_bytes word) words.now)) (F.contents files.old) (F.faults files.old) (F.faults files.new)
+        (record { old = O.contents out.old; now = O.contents out.new; before = O.faults out.old; after = O.faults out.new })
+        (record { old = E.contents errors.old; now = E.contents errors.new; before = E.faults errors.old; after = E.faults errors.new }) result }
+    ensures files { F.contents files.new ≡ F.contents files.old }
 {
     match run(alloc, words, files, out) {
         Ok(ended) => {

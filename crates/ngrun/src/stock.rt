@@ -24,11 +24,11 @@ pub fn run<F: Files, O: Sink>(
     files: &mut F,
     out: &mut O,
 ) -> Result<Ended, NoMemory>
-    ensures ends { IfOk result (λ ended. (messages : Messages) → EndsBy messages stocked (script_name (map (λ word. string_bytes word) words.now)) (F.held files.old) (F.faults files.old) (F.faults files.new)
-        (record { old = O.held out.old; now = O.held out.new; before = O.faults out.old; after = O.faults out.new }) ended.status ended.journal.items ended.fault) }
-    ensures silent { OnErr result (O.held out.new ≡ O.held out.old) }
+    ensures ends { IfOk result (λ ended. (messages : Messages) → EndsBy messages stocked (script_name (map (λ word. string_bytes word) words.now)) (F.contents files.old) (F.faults files.old) (F.faults files.new)
+        (record { old = O.contents out.old; now = O.contents out.new; before = O.faults out.old; after = O.faults out.new }) ended.status ended.journal.items ended.fault) }
+    ensures silent { OnErr result (O.contents out.new ≡ O.contents out.old) }
     ensures unread { OnErr result (F.faults files.new ≡ F.faults files.old) }
-    ensures files { F.held files.new ≡ F.held files.old }
+    ensures files { F.contents files.new ≡ F.contents files.old }
 {
     let mut stock: Vec<Box<dyn Node + Send>> = Vec::new(alloc);
     stock.push(Box::new(alloc, blank_socket(alloc)?)?)?;

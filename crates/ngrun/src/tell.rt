@@ -13,7 +13,7 @@ const OUT_OF_MEMORY: &[u8] = b"ngrun: out of memory\n";
 /// Puts the line of a fault of a call with these words. Where there is no memory for it, the line for want of memory
 /// is put. Nobody is told where the sink fails.
 pub fn tell<E: Sink>(alloc: Global, fault: &Fault, words: &[String], errors: &mut E)
-    ensures { TellsFault fault.now (script_name (map (λ word. string_bytes word) words.now)) (record { old = E.held errors.old; now = E.held errors.new; before = E.faults errors.old; after = E.faults errors.new }) }
+    ensures { TellsFault fault.now (script_name (map (λ word. string_bytes word) words.now)) (record { old = E.contents errors.old; now = E.contents errors.new; before = E.faults errors.old; after = E.faults errors.new }) }
 {
     let mut line = Vec::new(alloc);
     let told = match fault_line(alloc, fault, words, &mut line) {
@@ -25,7 +25,7 @@ pub fn tell<E: Sink>(alloc: Global, fault: &Fault, words: &[String], errors: &mu
 
 /// The same for a call that may have ended well: nothing is told then.
 pub fn tell_end<E: Sink>(alloc: Global, fault: Option<Fault>, words: &[String], errors: &mut E)
-    ensures { Tells fault (script_name (map (λ word. string_bytes word) words.now)) (record { old = E.held errors.old; now = E.held errors.new; before = E.faults errors.old; after = E.faults errors.new }) }
+    ensures { Tells fault (script_name (map (λ word. string_bytes word) words.now)) (record { old = E.contents errors.old; now = E.contents errors.new; before = E.faults errors.old; after = E.faults errors.new }) }
 {
     if let Some(fault) = fault {
         tell(alloc, &fault, words, errors);

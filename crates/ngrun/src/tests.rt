@@ -25,7 +25,7 @@ const ROOM: usize = 4096;
 
 // What is expected of the program with these words.
 #[derive(Drop)]
-struct Row {
+struct NodeRecord {
     words: &'static [&'static str],
     status: u8,
     text: &'static str,
@@ -63,7 +63,7 @@ fn sink(alloc: Global, failing: u64) -> Result<MemSink, NoMemory> {
 fn check(
     rt: &impl Abort,
     alloc: Global,
-    row: &Row,
+    row: &NodeRecord,
     script: &[u8],
     failing: u64,
 ) -> Result<(), Fail> {
@@ -80,7 +80,7 @@ fn check(
 
 #[test]
 fn an_echo(rt: HostRuntime) -> Result<(), Fail> {
-    let row = Row {
+    let row = NodeRecord {
         words: &["script"],
         status: 0,
         text: ECHO_TEXT,
@@ -92,25 +92,25 @@ fn an_echo(rt: HostRuntime) -> Result<(), Fail> {
 #[test]
 fn wrong_words_and_files(rt: HostRuntime) -> Result<(), Fail> {
     let rows = [
-        Row {
+        NodeRecord {
             words: &[],
             status: 64,
             text: "",
             told: "ngrun: usage: ngrun SCRIPT\n",
         },
-        Row {
+        NodeRecord {
             words: &["-v"],
             status: 64,
             text: "",
             told: "ngrun: usage: ngrun SCRIPT\n",
         },
-        Row {
+        NodeRecord {
             words: &["script", "out"],
             status: 64,
             text: "",
             told: "ngrun: usage: ngrun SCRIPT\n",
         },
-        Row {
+        NodeRecord {
             words: &["a b.ng"],
             status: 66,
             text: "",
@@ -126,7 +126,7 @@ fn wrong_words_and_files(rt: HostRuntime) -> Result<(), Fail> {
 #[test]
 fn a_wrong_line(rt: HostRuntime) -> Result<(), Fail> {
     let told = "ngrun: script line 2: not built yet\n";
-    let row = Row {
+    let row = NodeRecord {
         words: &["script"],
         status: 65,
         text: "",
@@ -143,7 +143,7 @@ fn a_wrong_line(rt: HostRuntime) -> Result<(), Fail> {
 
 #[test]
 fn a_script_that_is_too_big(rt: HostRuntime) -> Result<(), Fail> {
-    let row = Row {
+    let row = NodeRecord {
         words: &["script"],
         status: 65,
         text: "",
@@ -156,7 +156,7 @@ fn a_script_that_is_too_big(rt: HostRuntime) -> Result<(), Fail> {
 #[test]
 fn an_output_that_fails(rt: HostRuntime) -> Result<(), Fail> {
     let text = "+ mkpeer . echo a b\n";
-    let row = Row {
+    let row = NodeRecord {
         words: &["script"],
         status: 74,
         text,

@@ -27,8 +27,8 @@ pub fn behind_name(args: Vec<String>) -> Vec<String>
 /// Tells why the words couldn't be taken, and gives the exit status: 71 for want of memory, 64 where a word is no
 /// UTF-8.
 pub fn wordless<E: Sink>(alloc: Global, kind: ErrorKind, errors: &mut E) -> u8
-    ensures memory { kind ≡ ErrorKind.OutOfMemory → IsWordless Fault.NoMemory (record { old = E.held errors.old; now = E.held errors.new; before = E.faults errors.old; after = E.faults errors.new }) result }
-    ensures text { kind ≢ ErrorKind.OutOfMemory → IsWordless Fault.Usage (record { old = E.held errors.old; now = E.held errors.new; before = E.faults errors.old; after = E.faults errors.new }) result }
+    ensures memory { kind ≡ ErrorKind.OutOfMemory → IsWordless Fault.NoMemory (record { old = E.contents errors.old; now = E.contents errors.new; before = E.faults errors.old; after = E.faults errors.new }) result }
+    ensures text { kind ≢ ErrorKind.OutOfMemory → IsWordless Fault.Usage (record { old = E.contents errors.old; now = E.contents errors.new; before = E.faults errors.old; after = E.faults errors.new }) result }
 {
     match kind {
         ErrorKind::OutOfMemory => {

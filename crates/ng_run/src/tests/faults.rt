@@ -41,13 +41,18 @@ fn a_file_that_is_missing(rt: HostRuntime) -> Result<(), Fail> {
 fn each_call_of_a_file_fails_once(rt: HostRuntime) -> Result<(), Fail> {
     for (slow, least) in [(false, 1), (true, ECHO.len())] {
         let mut failed = 0;
-        for passed in 0..u64::MAX {
-            let mut files = file(rt.alloc(), ECHO.as_bytes(), slow, passed.saturating_add(1))?;
+        for outcome_by_plan in 0..u64::MAX {
+            let mut files = file(
+                rt.alloc(),
+                ECHO.as_bytes(),
+                slow,
+                outcome_by_plan.saturating_add(1),
+            )?;
             let mut out = sink(rt.alloc(), ROOM, false, 0)?;
             let ended = run(rt.alloc(), &["script"], &mut files, &mut out)?;
             if files.faults() == 0 {
                 check_text(&rt, &ended, &out, ECHO_TEXT);
-                failed = passed;
+                failed = outcome_by_plan;
                 break;
             }
             check_refused(&rt, &ended, &out, 66, Fault::ReadFault(Which::Script));
@@ -89,9 +94,19 @@ fn a_sink_that_fails_at_its_second_call(rt: HostRuntime) -> Result<(), Fail> {
 }
 
 // Runs the echo into a sink that fails at the call after so many. Whether it did.
-fn fails_at(rt: &impl Abort, alloc: Global, slow: bool, passed: usize) -> Result<bool, Fail> {
+fn fails_at(
+    rt: &impl Abort,
+    alloc: Global,
+    slow: bool,
+    outcome_by_plan: usize,
+) -> Result<bool, Fail> {
     let mut files = file(alloc, ECHO.as_bytes(), false, 0)?;
-    let mut out = sink(alloc, ROOM, slow, (passed as u64).saturating_add(1))?;
+    let mut out = sink(
+        alloc,
+        ROOM,
+        slow,
+        (outcome_by_plan as u64).saturating_add(1),
+    )?;
     let ended = run(alloc, &["script"], &mut files, &mut out)?;
     assert_eq!(rt; ended.journal.len(), 8);
     if out.faults() == 0 {
@@ -101,9 +116,9 @@ fn fails_at(rt: &impl Abort, alloc: Global, slow: bool, passed: usize) -> Result
     assert_eq!(rt; ended.status, 74);
     assert_eq!(rt; ended.fault, Some(Fault::WriteFault(Which::Sink)));
     let held = if slow {
-        front(passed)
+        front(outcome_by_plan)
     } else {
-        front_of_lines(passed)
+        front_of_lines(outcome_by_plan)
     };
     assert_eq!(rt; out.bytes(), held);
     Ok(true)
@@ -112,8 +127,8 @@ fn fails_at(rt: &impl Abort, alloc: Global, slow: bool, passed: usize) -> Result
 #[test]
 fn each_call_of_a_sink_fails_once(rt: HostRuntime) -> Result<(), Fail> {
     for (slow, calls) in [(false, 8), (true, ECHO_TEXT.len())] {
-        for passed in 0..calls {
-            assert!(rt; fails_at(&rt, rt.alloc(), slow, passed)?);
+        for outcome_by_plan in 0..calls {
+            assert!(rt; fails_at(&rt, rt.alloc(), slow, outcome_by_plan)?);
         }
         assert!(rt; !fails_at(&rt, rt.alloc(), slow, calls)?);
     }

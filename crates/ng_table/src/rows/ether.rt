@@ -4,8 +4,9 @@ ghost use Rattle.ng_table.specs.Message.{message_of};
 ghost use Rattle.ng_table.specs.Ether.{ether_messages};
 
 use super::{NOTHING, U32};
+use crate::Row;
 use crate::macros::row;
-use crate::{HAS_ANSWER, READ_ONLY, Row};
+use ng_message::{HAS_ANSWER, READ_ONLY};
 
 static ROWS: [Row; 4] = [
     row!("setpromisc", 1, U32 => NOTHING),

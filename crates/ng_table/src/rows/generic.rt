@@ -4,8 +4,9 @@ ghost use Rattle.ng_table.specs.Message.{message_of};
 ghost use Rattle.ng_table.specs.Generic.{generic_messages};
 
 use super::{NAME, NOTHING, U32};
+use crate::Row;
 use crate::macros::{row, structure};
-use crate::{HAS_ANSWER, READ_ONLY, Row};
+use ng_message::{HAS_ANSWER, READ_ONLY};
 use ng_shape::{CountField, Shape};
 
 // The most nodes or hooks that a list has.

@@ -4,8 +4,9 @@ ghost use Rattle.ng_table.specs.Message.{message_of};
 ghost use Rattle.ng_table.specs.One2many.{one2many_messages};
 
 use super::{NOTHING, U8, U32, U64};
+use crate::Row;
 use crate::macros::{row, structure};
-use crate::{HAS_ANSWER, READ_ONLY, Row};
+use ng_message::{HAS_ANSWER, READ_ONLY};
 use ng_shape::Shape;
 
 // A number of a link; -1 is the hook `one`.

@@ -4,8 +4,9 @@ ghost use Rattle.ng_table.specs.Message.{message_of};
 ghost use Rattle.ng_table.specs.Patch.{patch_messages};
 
 use super::{NOTHING, U16, U32, U64};
+use crate::Row;
 use crate::macros::{row, structure};
-use crate::{HAS_ANSWER, READ_ONLY, Row};
+use ng_message::{HAS_ANSWER, READ_ONLY};
 use ng_shape::{CountField, Shape};
 
 const OPERATION: Shape = structure!("offset": U32, "length": U16, "mode": U16, "value": U64);

@@ -4,8 +4,9 @@ ghost use Rattle.ng_table.specs.Message.{message_of};
 ghost use Rattle.ng_table.specs.Tee.{tee_messages};
 
 use super::{NOTHING, U64};
+use crate::Row;
 use crate::macros::{row, structure};
-use crate::{HAS_ANSWER, Row};
+use ng_message::HAS_ANSWER;
 use ng_shape::Shape;
 
 // What is counted of one hook.

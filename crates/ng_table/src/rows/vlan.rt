@@ -3,12 +3,14 @@ ghost use Rattle.std.specs.Prelude.{◌≡◌, map};
 ghost use Rattle.ng_table.specs.Message.{message_of};
 ghost use Rattle.ng_table.specs.Vlan.{vlan_messages};
 
-use super::{NAME, NOTHING, U16, U32};
+use super::{NAME, NOTHING, U8, U16, U32};
+use crate::Row;
 use crate::macros::{row, structure};
-use crate::{HAS_ANSWER, READ_ONLY, Row};
+use ng_message::{HAS_ANSWER, READ_ONLY};
 use ng_shape::{CountField, Shape};
 
-const FILTER: Shape = structure!("hook": NAME, "vlan": U16);
+// The hook of a VLAN, its number, and the priority bits that its tags carry (IEEE 802.1Q).
+const FILTER: Shape = structure!("hook": NAME, "vlan": U16, "pcp": U8, "cfi": U8);
 
 const FILTERS: Shape = Shape::Counted {
     by: CountField::Own("n"),
@@ -18,10 +20,15 @@ const FILTERS: Shape = Shape::Counted {
 
 const TABLE: Shape = structure!("n": U32, "filter": FILTERS);
 
-static ROWS: [Row; 3] = [
+// The type of a tag: 0x8100, or 0x88a8.
+const TAG_TYPE: Shape = Shape::Hex(32);
+
+static ROWS: [Row; 5] = [
     row!("addfilter", 1, FILTER => NOTHING),
     row!("delfilter", 2, NAME => NOTHING),
     row!("gettable", 3 + READ_ONLY + HAS_ANSWER, NOTHING => TABLE),
+    row!("settagtype", 4, TAG_TYPE => NOTHING),
+    row!("gettagtype", 5 + READ_ONLY + HAS_ANSWER, NOTHING => TAG_TYPE),
 ];
 
 pub(crate) fn rows() -> &'static [Row]

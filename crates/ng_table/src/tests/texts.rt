@@ -12,27 +12,27 @@ use std::test::Fail;
 struct Case {
     kind: Kind,
     name: &'static str,
-    part: Part,
+    side: Side,
     text: &'static str,
     len: usize,
 }
 
 #[derive(Clone, Copy, PartialEq, Eq)]
-enum Part {
+enum Side {
     Args,
     Answer,
 }
 
-fn shape_of(row: &Row, part: Part) -> &'static Shape {
-    match part {
-        Part::Args => row.args,
-        Part::Answer => row.answer,
+fn shape_of(row: &Row, side: Side) -> &'static Shape {
+    match side {
+        Side::Args => row.args,
+        Side::Answer => row.answer,
     }
 }
 
 fn check(rt: &impl Abort, alloc: Global, case: &Case) -> Result<(), Fail> {
     let (_, row) = find_name(case.kind, case.name.as_bytes()).ok_or("no such row")?;
-    let shape = shape_of(row, case.part);
+    let shape = shape_of(row, case.side);
     let bytes = to_bytes(alloc, shape, case.text.as_bytes())
         .ok()
         .ok_or("no form")?;
@@ -43,11 +43,11 @@ fn check(rt: &impl Abort, alloc: Global, case: &Case) -> Result<(), Fail> {
 }
 
 macro_rules! case {
-    ($kind:ident, $name:literal, $part:ident, $len:literal, $text:literal) => {
+    ($kind:ident, $name:literal, $side:ident, $len:literal, $text:literal) => {
         Case {
             kind: Kind::$kind,
             name: $name,
-            part: Part::$part,
+            side: Side::$side,
             text: $text,
             len: $len,
         }
@@ -136,8 +136,16 @@ fn configurations(rt: HostRuntime) -> Result<(), Fail> {
             16,
             "{ debugLevel=1 loopTimeout=60 maxStaleness=900 minStableAge=1 }"
         ),
-        case!(Vlan, "addfilter", Args, 34, r#"{ hook="v5" vlan=5 }"#),
+        case!(
+            Vlan,
+            "addfilter",
+            Args,
+            36,
+            r#"{ hook="v5" vlan=5 pcp=3 cfi=1 }"#
+        ),
         case!(Vlan, "delfilter", Args, 32, r#""v5""#),
+        case!(Vlan, "settagtype", Args, 4, "0x88a8"),
+        case!(Vlan, "gettagtype", Answer, 4, "0x8100"),
         case!(
             Patch,
             "setconfig",
@@ -152,6 +160,15 @@ fn configurations(rt: HostRuntime) -> Result<(), Fail> {
             116,
             r#"{ thisHook="in" ifMatch="a" ifNotMatch="b" bpf_prog_len=2 bpf_prog=[ { code=40 jt=1 jf=2 k=12 } { code=6 k=65535 } ] }"#
         ),
+        case!(
+            Etf,
+            "setfilter",
+            Args,
+            34,
+            r#"{ matchhook="ip" ethertype=2048 }"#
+        ),
+        case!(Macset, "add", Args, 6, "02:00:00:00:00:0a"),
+        case!(Macset, "del", Args, 6, "02:00:00:00:00:0a"),
         case!(Ether, "setpromisc", Args, 4, "1"),
         case!(Ether, "getautosrc", Answer, 4, "4294967295"),
     ];
@@ -194,6 +211,14 @@ fn statistics(rt: HostRuntime) -> Result<(), Fail> {
             48,
             "{ recvFrames=1 recvOctets=2 recvMatchFrames=3 recvMatchOctets=4 xmitFrames=5 xmitOctets=6 }"
         ),
+        case!(Etf, "getstatus", Answer, 16, "{ inFrames=1 outFrames=2 }"),
+        case!(
+            Macset,
+            "getstats",
+            Answer,
+            16,
+            "{ knownFrames=1 otherFrames=2 }"
+        ),
     ];
     for case in &cases {
         check(&rt, rt.alloc(), case)?;
@@ -215,8 +240,22 @@ fn tables(rt: HostRuntime) -> Result<(), Fail> {
             Vlan,
             "gettable",
             Answer,
-            38,
-            r#"{ n=1 filter=[ { hook="v5" vlan=5 } ] }"#
+            40,
+            r#"{ n=1 filter=[ { hook="v5" vlan=5 pcp=3 } ] }"#
+        ),
+        case!(
+            Etf,
+            "gettable",
+            Answer,
+            72,
+            r#"{ n=2 filter=[ { matchhook="ip" ethertype=2048 } { matchhook="arp" ethertype=2054 } ] }"#
+        ),
+        case!(
+            Macset,
+            "gettable",
+            Answer,
+            16,
+            "{ n=2 addr=[ 02:00:00:00:00:0a 02:00:00:00:00:0b ] }"
         ),
     ];
     for case in &cases {

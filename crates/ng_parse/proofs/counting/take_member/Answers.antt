@@ -12,8 +12,8 @@ returns-then-index-number-clause-tree c =
     let lt : at < length ms = omega (arith, c.loop-at-test.true, c.len-at-end.ensures, c.args.members.ok.0) in
     let here : c.index.result.now ≡ get_or ms at c.index.result.now = rw c.loop-at.invariant.same at c.index.ensures in
     let removed : c.remove-tree.result ≡ get_or ms at c.remove-tree.result = rw c.loop-at.invariant.same at c.remove-tree.ensures.value in
-    let numbered : (get_or ms at c.remove-tree.result).number ≡ c.args.number = ap (λ (m : Member). m.number) (get_or_default ms at c.remove-tree.result c.index.result.now lt) ∙ ap (λ (m : Member). m.number) (sym here) ∙ c.if-index-number.true in
-    ap (λ (m : Member). value_of m.tree) removed ∙ sym (found_at ms at c.args.number c.remove-tree.result lt numbered) ∙ c.loop-at.invariant.found
+    let same_number : (get_or ms at c.remove-tree.result).number ≡ c.args.number = ap (λ (m : Member). m.number) (get_or_default ms at c.remove-tree.result c.index.result.now lt) ∙ ap (λ (m : Member). m.number) (sym here) ∙ c.if-index-number.true in
+    ap (λ (m : Member). value_of m.tree) removed ∙ sym (found_at ms at c.args.number c.remove-tree.result lt same_number) ∙ c.loop-at.invariant.found
 
 pub returns-then-index-number-clause-rest : goal.returns-then-index-number-clause-rest
 returns-then-index-number-clause-rest c =
@@ -21,8 +21,8 @@ returns-then-index-number-clause-rest c =
     let at = c.loop-at.at in
     let lt : at < length ms = omega (arith, c.loop-at-test.true, c.len-at-end.ensures, c.args.members.ok.0) in
     let here : c.index.result.now ≡ get_or ms at c.index.result.now = rw c.loop-at.invariant.same at c.index.ensures in
-    let numbered : (get_or ms at c.index.result.now).number ≡ c.args.number = ap (λ (m : Member). m.number) (sym here) ∙ c.if-index-number.true in
-    ap members_of (rw (c.loop-at.invariant.same, add-one) at c.remove-tree.ensures.by_index.2) ∙ sym (taken_out ms at c.args.number c.index.result.now lt numbered) ∙ c.loop-at.invariant.rest
+    let same_number : (get_or ms at c.index.result.now).number ≡ c.args.number = ap (λ (m : Member). m.number) (sym here) ∙ c.if-index-number.true in
+    ap members_of (rw (c.loop-at.invariant.same, add-one) at c.remove-tree.ensures.by_index.2) ∙ sym (taken_out ms at c.args.number c.index.result.now lt same_number) ∙ c.loop-at.invariant.rest
 
 pub loop-at-preserved : goal.loop-at-preserved
 loop-at-preserved c =

@@ -1,6 +1,6 @@
 -- The fault of what is left is that of the whole, and its places fit.
 use Rattle.std.proofs.Common.{◌≡◌, ◌+◌, ◌<◌, ◌^◌, length}
-use Rattle.ng_path.specs.Parts.{cut_at}
+use Rattle.ng_path.specs.Segments.{cut_at}
 use Rattle.ng_path.proofs.Walks.{first_fault}
 use Rattle.ng_path.proofs.reading.hook_fault.Given as goal
 

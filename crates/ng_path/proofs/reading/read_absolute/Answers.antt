@@ -5,7 +5,7 @@ use Rattle.std.proofs.lemmas.Result.{err_from_is_err_and}
 use Rattle.ng_path.proofs.Cuts.{cut_some}
 use Rattle.ng_path.proofs.Steps.{front_of, some_behind, no_bytes}
 use Rattle.ng_path.proofs.Whole.{first_in_parts, first_node_empty, first_node_bad, first_hooks, first_colon, short_whole}
-use Rattle.ng_path.specs.Faults.{IsFaultOfParts, IsFirstOf}
+use Rattle.ng_path.specs.Faults.{IsFaultOfSegments, IsFirstOf}
 use Rattle.ng_path.specs.declared.fault.PathFault.TheVariants.{EmptyNode}
 use Rattle.ng_path.proofs.reading.read_absolute.Goals as goal
 
@@ -13,7 +13,7 @@ pub returns-then-is_empty : goal.returns-then-is_empty
 returns-then-is_empty c =
     let behind = cut_some 0x3a c.args.behind.now in
     let none : c.args.node.now ≡ [] = no_bytes c.args.node.now (sym c.is_empty.ensures ∙ c.if-is_empty.true) in
-    let first = subst (λ (l : List ℕ). IsFirstOf (IsFaultOfParts (l ∷ (behind.0 ∷ behind.1))) EmptyNode) (sym none) (first_node_empty behind.0 behind.1) in
+    let first = subst (λ (l : List ℕ). IsFirstOf (IsFaultOfSegments (l ∷ (behind.0 ∷ behind.1))) EmptyNode) (sym none) (first_node_empty behind.0 behind.1) in
     first_in_parts (c.args.node.now ++ 0x3a ∷ c.args.behind.now) (c.args.node.now ∷ (behind.0 ∷ behind.1)) EmptyNode
     (short_whole c.args.node.now c.args.behind.now c.requires.short)
     (c.requires.parts ∙ ap (λ (l : List (List ℕ)). c.args.node.now ∷ l) behind.2) first

@@ -3,7 +3,7 @@ use Rattle.std.proofs.lemmas.Iterator.{YieldsList-from_slice}
 use Rattle.std.proofs.lemmas.Iterator.Search.{all_from_yields_List}
 use Rattle.std.proofs.lemmas.Bool.Decides.{nat_tests}
 use Rattle.std.specs.List.{list_all}
-use Rattle.ng_shape.specs.Shapes.{is_word_byte}
+use Rattle.ng_shape.specs.Sound.{is_word_byte}
 use Rattle.ng_shape.proofs.sound.is_word.Goals as goal
 
 pub returns-then-not-is_empty : goal.returns-then-not-is_empty

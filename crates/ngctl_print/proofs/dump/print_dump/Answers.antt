@@ -5,7 +5,7 @@ use Rattle.std.specs.Int.{div_ceil}
 use Rattle.std.specs.List.{range_with_len}
 use Rattle.ngctl_print.specs.Dump.{row_text}
 use Rattle.ngctl_print.proofs.Printing.{item_printed, item_stopped, all_printed, handed_on}
-use Rattle.ngctl_print.proofs.Rows.{row_at}
+use Rattle.ngctl_print.proofs.Rows.{node_at}
 use Rattle.ngctl_print.proofs.dump.print_dump.Goals as goal
 
 abbrev rows_of : List ℕ → List ℕ
@@ -21,7 +21,7 @@ loop-row-preserved g c =
     let below : c.loop-row.row < div_ceil (length c.args.packet.now) 16 = omega arith in
     let inside : c.loop-row.row < length (rows_of c.args.packet.now) = omega (arith, length-range_with_len 0 (div_ceil (length c.args.packet.now) 16)) in
     item_printed (row_text c.args.packet.now) (rows_of c.args.packet.now) c.loop-row.row 0 _ _ _ _ _ _ inside c.loop-row.invariant
-    (rw (row_at (div_ceil (length c.args.packet.now) 16) c.loop-row.row below) c.in_ok-print_row.ensures)
+    (rw (node_at (div_ceil (length c.args.packet.now) 16) c.loop-row.row below) c.in_ok-print_row.ensures)
 
 pub returns-in_err-print_row : goal.returns-in_err-print_row
 returns-in_err-print_row g c =
@@ -30,4 +30,4 @@ returns-in_err-print_row g c =
     let p = err_from_is_err_and c.from_residual.result c.from_residual.ensures.1 in
     handed_on _ _ _ _ _ _ _ _ p.1 p.2
     (item_stopped (row_text c.args.packet.now) (rows_of c.args.packet.now) c.loop-row.row 0 _ _ _ _ _ _ c.in_err-print_row.field-0.0 inside c.loop-row.invariant
-    (rw (row_at (div_ceil (length c.args.packet.now) 16) c.loop-row.row below) c.in_err-print_row.ensures))
+    (rw (node_at (div_ceil (length c.args.packet.now) 16) c.loop-row.row below) c.in_err-print_row.ensures))

@@ -6,4 +6,4 @@ use Rattle.ngctl_print.specs.Prints.{Prints}
 use Rattle.ngctl_print.proofs.dump.print_dump.Given as goal
 
 abbrev pub invariant-loop-row : goal.invariant-loop-row
-invariant-loop-row g l = Prints (g.O.Sink.held l.fn.out) (g.O.Sink.held l.out) (g.O.Sink.faults l.fn.out) (g.O.Sink.faults l.out) (Ok tt) (flat_map (row_text l.packet) (take l.row (range_with_len 0 (div_ceil (length l.packet) 16))))
+invariant-loop-row g l = Prints (g.O.Sink.contents l.fn.out) (g.O.Sink.contents l.out) (g.O.Sink.faults l.fn.out) (g.O.Sink.faults l.out) (Ok tt) (flat_map (row_text l.packet) (take l.row (range_with_len 0 (div_ceil (length l.packet) 16))))

@@ -7,5 +7,5 @@ use Rattle.ngctl_print.proofs.summary.print_summary.Given as goal
 abbrev pub invariant-loop-line : goal.invariant-loop-line
 invariant-loop-line g l = record {
   lines : map string_bytes l.line-items ≡ summary_lines l.totals l.fed l.of l.stopped;
-  printed : Prints (g.O.Sink.held l.fn.out) (g.O.Sink.held l.out) (g.O.Sink.faults l.fn.out) (g.O.Sink.faults l.out) (Ok tt) (flat_map string_bytes (take l.line-index l.line-items));
+  printed : Prints (g.O.Sink.contents l.fn.out) (g.O.Sink.contents l.out) (g.O.Sink.faults l.fn.out) (g.O.Sink.faults l.out) (Ok tt) (flat_map string_bytes (take l.line-index l.line-items));
 }

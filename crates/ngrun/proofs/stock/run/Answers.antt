@@ -3,7 +3,7 @@ use Rattle.std.proofs.Common.{◌≡◌, ℕ, List, ◌∷◌, map, replicate, s
 use Rattle.ng_base.specs.declared.kind.Kind.{Kind}
 use Rattle.ng_base.specs.declared.kind.Kind.TheVariants.{Echo, Socket}
 use Rattle.ng_machine.specs.State.{blank_of}
-use Rattle.ng_run.specs.Ends.{Heard, EndsBy}
+use Rattle.ng_run.specs.Ends.{SinkChange, EndsBy}
 use Rattle.ng_run.specs.Words.{script_name}
 use Rattle.ngrun.proofs.Stocks.{one_more}
 use Rattle.ngrun.proofs.stock.run.OwnLists.{own-1, at-1-2}
@@ -22,7 +22,7 @@ pub returns-clause-ends : goal.returns-clause-ends
 returns-clause-ends g c = λ messages.
     let all : c.loop.counter ≡ 256 = omega (arith, c.loop-test.false, c.loop.auto.counter-end) in
     let kinds = c.loop.invariant.kinds ∙ ap (λ (n : ℕ). let l : List Kind = Socket ∷ replicate n Echo in l) all in
-    let sink : Heard = record { old = g.O.Sink.held c.args.out.now; now = g.O.Sink.held c.ngrun.new.out; before = g.O.Sink.faults c.args.out.now; after = g.O.Sink.faults c.ngrun.new.out } in
+    let sink : SinkChange = record { old = g.O.Sink.contents c.args.out.now; now = g.O.Sink.contents c.ngrun.new.out; before = g.O.Sink.faults c.args.out.now; after = g.O.Sink.faults c.ngrun.new.out } in
     let name = script_name (map (λ word. string_bytes word) c.args.words.now) in
-    subst (λ (l : List Kind). EndsBy messages l name (g.F.Files.held c.args.files.now) (g.F.Files.faults c.args.files.now) (g.F.Files.faults c.ngrun.new.files) sink c.ngrun.result.status c.ngrun.result.journal.items c.ngrun.result.fault)
+    subst (λ (l : List Kind). EndsBy messages l name (g.F.Files.contents c.args.files.now) (g.F.Files.faults c.args.files.now) (g.F.Files.faults c.ngrun.new.files) sink c.ngrun.result.status c.ngrun.result.journal.items c.ngrun.result.fault)
     kinds (c.ngrun.ensures.ends messages)

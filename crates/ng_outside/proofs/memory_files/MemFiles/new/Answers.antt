@@ -17,5 +17,5 @@ loop-i-preserved c =
       room = below_more_set HasRoom files _ _ in_list room c.loop-i.invariant.room;
     }
 
-pub returns-clause-held : goal.returns-clause-held
-returns-clause-held c = names_hold c.args.held.items c.requires.names _ c.loop-i.invariant.same
+pub returns-clause-contents : goal.returns-clause-contents
+returns-clause-contents c = names_hold c.args.initial.items c.requires.names _ c.loop-i.invariant.same

@@ -5,7 +5,7 @@ use Rattle.ng_outside.proofs.memory_files.MemFiles.new.Given as goal
 
 abbrev pub invariant-loop-i : goal.invariant-loop-i
 invariant-loop-i l = record {
-  same : map file_state l.files.items ≡ map file_state l.fn.held.items;
+  same : map file_state l.files.items ≡ map file_state l.fn.initial.items;
   fits : FitRooms l.files.items;
   room : (k : ℕ) (d : MemFile) → k < l.i → HasRoom (get_or l.files.items k d);
 }

@@ -1,5 +1,5 @@
 use Rattle.std.proofs.Common.{subst, List, ℕ}
-use Rattle.ng_path.specs.Parts.{hook_names}
+use Rattle.ng_path.specs.Segments.{hook_names}
 use Rattle.ng_path.specs.Grammar.{IsHookText}
 use Rattle.ng_path.proofs.Joined.{joined_dotted, joined_undotted}
 use Rattle.ng_path.proofs.hooks.Hooks.of.Goals as goal

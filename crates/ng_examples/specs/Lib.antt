@@ -1,0 +1,5 @@
+pub mod Commands
+pub mod Examples
+pub mod TypeCommands
+pub mod TypeExamples
+pub mod DeskExamples
