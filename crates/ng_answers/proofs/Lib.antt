@@ -1,0 +1,10 @@
+pub mod Sizes
+pub mod Layouts
+pub mod Rows
+pub mod Shapes
+pub mod Replies
+pub mod Teaching
+pub mod Orders
+pub mod Owing
+pub mod Worlds
+pub mod Runs
