@@ -1,0 +1,6 @@
+pub mod ScanLemmas
+pub mod OrderLemmas
+pub mod TakeableLemmas
+pub mod HeapLemmas
+pub mod QueuesLemmas
+pub mod BlankLemmas

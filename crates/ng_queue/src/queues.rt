@@ -1,0 +1,172 @@
+// Queues by the numbers of their nodes.
+ghost use Rattle.std.specs.Prelude.{◌≡◌, ℕ, ◌+◌, ◌-◌, ◌<◌, ◌≤◌, ◌++◌, ◌∷◌, [], map, filter, set, length, replicate, None, Some, OnOk, OnErr, IfOk, IfSome, MatchOption};
+ghost use Rattle.ng_queue.specs.Queue.{head, hold_of, take_out, put_back, is_other, mark_of, waiting_items, AllWait, IsBelow, IsOutAs, IsOut};
+ghost use Rattle.ng_queue.specs.Queues.{list_at, spare_at, ready_of, NoneReady, IsLeast};
+ghost use Rattle.ng_queue.specs.declared.entry.Entry.TheVariants.{Waiting};
+ghost use Rattle.ng_machine.specs.World.{item_id};
+
+use crate::NodeQueue;
+use crate::ready::Ready;
+use ng_base::{ItemId, NoMemory};
+use ng_machine::Item;
+use std::alloc::Global;
+use std::marker::Model;
+
+/// A queue for each node, by number, all made at once, and the least of the heads that can be taken. Finding that
+/// head, and each change of a queue, takes a number of steps that grows with the logarithm of the number of queues.
+///
+/// A contract sees the entries of each queue, and how many more items each has room for.
+#[derive(Drop)]
+pub struct Queues {
+    queues: Vec<NodeQueue>,
+    ready: Ready,
+}
+
+impl Model for Queues {
+    ghost use Rattle.ng_queue.specs.Queues.{QueueLists};
+    ghost use Rattle.ng_queue.specs.QueuesFields.{queue_lists_of, IsConsistent};
+
+    ghost Value = { QueueLists };
+
+    ghost view = { queue_lists_of };
+
+    ghost invariant = { IsConsistent };
+}
+
+/// The number of the head, where it can be taken.
+fn ready_id(queue: &NodeQueue) -> Option<u64>
+    ensures { result ≡ ready_of queue.now.entries }
+{
+    if queue.hold().is_some() {
+        return None;
+    }
+    match queue.head() {
+        None => None,
+        Some(item) => Some(item.id.0),
+    }
+}
+
+impl Queues {
+    /// `n` queues with nothing in them and no room, for the numbers 0 to `n` - 1.
+    ///
+    /// # Errors
+    /// `NoMemory` where memory ran out, and for nothing else.
+    #[tactic(auto, using(crate::proofs::BlankLemmas::replicate_more))]
+    pub fn new(alloc: Global, n: usize) -> Result<Queues, NoMemory>
+        requires some { 0 < n }
+        requires few { n < 4611686018427387904 }
+        ensures lists { IfOk result (λ q. q.lists ≡ replicate n []) }
+        ensures spares { IfOk result (λ q. q.spares ≡ replicate n 0) }
+    {
+        let mut queues = Vec::new(alloc);
+        for i in 0..n {
+            queues.push(NodeQueue::new(alloc)?)?;
+        }
+        let ready = Ready::new(alloc, n)?;
+        Ok(Queues { queues, ready })
+    }
+
+    /// The number of the queue that has the least head of those that can be taken, or `None` where no queue lets its
+    /// head be taken. It takes no memory.
+    #[tactic(auto, using(crate::proofs::QueuesLemmas::none_ready, crate::proofs::QueuesLemmas::least_ready))]
+    pub fn least(&self) -> Option<usize>
+        ensures { MatchOption result (NoneReady self.now.lists) (IsLeast self.now.lists) }
+    {
+        self.ready.least()
+    }
+
+    /// How many queues there are.
+    pub fn len(&self) -> usize
+        ensures { result ≡ length self.now.lists }
+    {
+        self.queues.len()
+    }
+
+    /// The head of the queue that `least` answers.
+    pub fn head(&self, at: usize) -> &Item
+        requires { IsLeast self.now.lists at }
+        ensures { head (list_at self.now.lists at) ≡ Some result.now }
+    {
+        match self.queues[at].head() {
+            Some(item) => item,
+            None => unreachable!(),
+        }
+    }
+
+    /// Makes room for at least one item more at this node.
+    ///
+    /// # Errors
+    /// `NoMemory` where memory ran out, and for nothing else; all entries are then as before.
+    pub fn widen(&mut self, at: usize) -> Result<(), NoMemory>
+        requires { at < length self.old.lists }
+        ensures lists { self.new.lists ≡ self.old.lists }
+        ensures room { OnOk result (spare_at self.old.spares at + 1 ≤ spare_at self.new.spares at) }
+        ensures more { (k : ℕ) → spare_at self.old.spares k ≤ spare_at self.new.spares k }
+    {
+        self.queues[at].widen()
+    }
+
+    /// Adds an item behind all others at this node, where there is room for it. Its number is above all there, and is
+    /// not the greatest of 64 bits. It takes no memory.
+    pub fn push(&mut self, at: usize, item: Item)
+        requires there { at < length self.old.lists }
+        requires room { 0 < spare_at self.old.spares at }
+        requires above { IsBelow item.id (list_at self.old.lists at) }
+        requires low { item.id.0 < 18446744073709551615 }
+        ensures lists { self.new.lists ≡ set self.old.lists at (list_at self.old.lists at ++ Waiting item ∷ []) }
+        ensures spares { self.new.spares ≡ set self.old.spares at (spare_at self.old.spares at - 1) }
+    {
+        self.queues[at].push(item);
+        self.ready.put(at, ready_id(&self.queues[at]));
+    }
+
+    /// Takes the head of the queue that `least` answers. It takes no memory.
+    pub fn take(&mut self, at: usize) -> Item
+        requires { IsLeast self.old.lists at }
+        ensures head { head (list_at self.old.lists at) ≡ Some result }
+        ensures lists { self.new.lists ≡ set self.old.lists at (map (take_out result.id) (list_at self.old.lists at)) }
+        ensures spares { self.new.spares ≡ self.old.spares }
+    {
+        match self.queues[at].take() {
+            Ok(item) => {
+                self.ready.put(at, ready_id(&self.queues[at]));
+                item
+            }
+            Err(_) => unreachable!(),
+        }
+    }
+
+    /// Puts an item back at its place, where an item of its number, mode and lane is out. It takes no memory.
+    pub fn back(&mut self, at: usize, item: Item)
+        requires there { at < length self.old.lists }
+        requires out { IsOutAs (mark_of item) (list_at self.old.lists at) }
+        ensures lists { self.new.lists ≡ set self.old.lists at (map (put_back item) (list_at self.old.lists at)) }
+        ensures spares { self.new.spares ≡ self.old.spares }
+    {
+        self.queues[at].back(item);
+        self.ready.put(at, ready_id(&self.queues[at]));
+    }
+
+    /// Forgets the item of this number, which is out at this node. It takes no memory.
+    pub fn done(&mut self, at: usize, id: ItemId)
+        requires there { at < length self.old.lists }
+        requires out { IsOut id (list_at self.old.lists at) }
+        ensures lists { self.new.lists ≡ set self.old.lists at (filter (is_other id) (list_at self.old.lists at)) }
+        ensures spares { self.new.spares ≡ self.old.spares }
+    {
+        self.queues[at].done(id);
+        self.ready.put(at, ready_id(&self.queues[at]));
+    }
+
+    /// All items that wait at this node, in order, where none is out. It takes no memory.
+    pub fn purge(&mut self, at: usize) -> Vec<Item>
+        requires there { at < length self.old.lists }
+        requires waits { AllWait (list_at self.old.lists at) }
+        ensures items { result.items ≡ waiting_items (list_at self.old.lists at) }
+        ensures lists { self.new.lists ≡ set self.old.lists at [] }
+    {
+        let items = self.queues[at].purge();
+        self.ready.put(at, ready_id(&self.queues[at]));
+        items
+    }
+}
