@@ -1,0 +1,10 @@
+pub mod HookLemmas
+pub mod NodeLemmas
+pub mod PlanLemmas
+pub mod StockLemmas
+pub mod PlaceLemmas
+pub mod NameLemmas
+pub mod SproutLemmas
+pub mod WalkLemmas
+pub mod WorldLemmas
+pub mod SoundLemmas

@@ -1,0 +1,294 @@
+// A node as the graph holds it.
+ghost use Rattle.std.specs.Prelude.{◌≡◌, true, false, if◌then◌else◌, map, find, is_some, IsSome, IfOk, OnOk, OnErr, Some, None, Err};
+ghost use Rattle.std.specs.Arc.{arc_value};
+ghost use Rattle.std.specs.Option.{option_map, option_copied};
+ghost use Rattle.ng_machine.specs.Errors.{eexist};
+ghost use Rattle.ng_machine.specs.Rules.{may_of};
+ghost use Rattle.ng_machine.specs.State.{State, kind_of, blank_of, way_of};
+ghost use Rattle.ng_machine.specs.World.{is_named, linked_hook, kind_at, state_of, has_hook, hook_of, with_hook, without_hook, with_changed_hook, settle_hook, bind_to, blank_node};
+ghost use Rattle.ng_topology.specs.NodeEntry.{AcceptsHook, entry_as, with_node};
+ghost use Rattle.ng_topology.specs.Topology.{FitsNode, with_kept};
+
+use crate::Hooks;
+use crate::plans::hook_and_plan;
+use ng_base::{Errno, Kind, LinkId, Name, NoMemory};
+use ng_machine::{End, Hook, Plan};
+use ng_node::Node;
+use std::alloc::Global;
+use std::marker::Model;
+use std::mem;
+use std::snapshot::Snapshot;
+use std::sync::Arc;
+
+/// A node, its name and its hooks, with its box while that is at home, and its plan, which a one2many has not.
+///
+/// A contract sees the node as the machine's world has it, and whether the box is at home. While it is lent the node
+/// keeps what the box kept when it went.
+#[derive(Drop)]
+pub struct Entry<B: Node> {
+    kind: Kind,
+    name: Option<Name>,
+    hooks: Hooks,
+    home: Option<B>,
+    // The box as it was when it was lent.
+    was: Snapshot<B>,
+    plan: Option<Arc<Plan>>,
+}
+
+impl<B: Node> Model for Entry<B> {
+    ghost use Rattle.std.specs.Prelude.{is_some};
+    ghost use Rattle.std.specs.Arc.{arc_value};
+    ghost use Rattle.std.specs.Option.{option_map};
+    ghost use Rattle.ng_topology.specs.NodeEntry.{NodeEntry, IsConsistent, entry_as, state_in};
+
+    ghost Value = { NodeEntry };
+
+    ghost view = { λ e. entry_as e.name (state_in B.state e.home e.was.value) e.hooks (is_some e.home) };
+
+    ghost invariant = { λ e. IsConsistent e.kind (state_in B.state e.home e.was.value) e.hooks (option_map arc_value e.plan) };
+}
+
+impl<B: Node> Entry<B> {
+    /// A blank node of the kind, with a name or without.
+    #[tactic(auto, using(crate::proofs::StockLemmas::blank_kind))]
+    pub fn blank(
+        alloc: Global,
+        name: Option<Name>,
+        node: B,
+        kind: Kind,
+        plan: Option<Arc<Plan>>,
+    ) -> Self
+        requires blank { B.state node ≡ blank_of kind }
+        requires planned { option_map arc_value plan ≡ way_of (blank_of kind) }
+        ensures { result ≡ record { node = blank_node name kind; home = true } }
+    {
+        let was = Snapshot::of(&node);
+        Entry {
+            kind,
+            name,
+            hooks: Hooks::new(alloc),
+            home: Some(node),
+            was,
+            plan,
+        }
+    }
+
+    /// A node of the kind without a name, with its hooks.
+    pub fn with_hooks(kind: Kind, hooks: Hooks, node: B, plan: Option<Arc<Plan>>) -> Self
+        requires kind { kind_of (B.state node) ≡ kind }
+        requires hooks { map (λ h. h.name) hooks ≡ (B.state node).hooks }
+        requires planned { option_map arc_value plan ≡ way_of (B.state node) }
+        ensures { result ≡ entry_as None (B.state node) hooks true }
+    {
+        let was = Snapshot::of(&node);
+        Entry {
+            kind,
+            name: None,
+            hooks,
+            home: Some(node),
+            was,
+            plan,
+        }
+    }
+
+    /// The type of the node.
+    pub fn kind(&self) -> Kind
+        ensures { result ≡ kind_at self.now.node }
+    {
+        self.kind
+    }
+
+    /// The name of the node, if it has one.
+    pub fn name(&self) -> Option<&Name>
+        ensures { option_copied result ≡ self.now.node.name }
+    {
+        self.name.as_ref()
+    }
+
+    /// The hooks, in the order in which they were made.
+    pub fn hooks(&self) -> &[Hook]
+        ensures { result.now ≡ self.now.node.hooks }
+    {
+        self.hooks.as_slice()
+    }
+
+    /// The hook of that name, if there is one.
+    pub fn hook(&self, name: &Name) -> Option<&Hook>
+        ensures { option_copied result ≡ hook_of self.now.node name.now }
+    {
+        self.hooks.find(name)
+    }
+
+    /// Whether the box is at home.
+    pub fn is_home(&self) -> bool
+        ensures { result ≡ self.now.home }
+    {
+        self.home.is_some()
+    }
+
+    /// The box, which is at home.
+    pub fn node(&self) -> &B
+        requires { self.now.home ≡ true }
+        ensures { B.state result.now ≡ state_of self.now.node }
+    {
+        match &self.home {
+            Some(node) => node,
+            None => unreachable!(),
+        }
+    }
+
+    /// Whether the node may get a hook of that name. Its box is at home.
+    ///
+    /// # Errors
+    /// `EEXIST` where the hook is there, else `EINVAL` where the type doesn't take the name.
+    pub fn may(&self, hook: &Name) -> Result<(), Errno>
+        requires { self.now.home ≡ true }
+        ensures { result ≡ (if has_hook self.now.node hook.now then Err eexist else may_of (kind_at self.now.node) hook.now) }
+    {
+        if self.hooks.find(hook).is_some() {
+            return Err(Errno::EXIST);
+        }
+        match &self.home {
+            Some(node) => node.may(hook),
+            None => unreachable!(),
+        }
+    }
+
+    /// The plan, shared, of a node that has one.
+    ///
+    /// # Errors
+    /// `NoMemory` where the plan is shared more often than can be counted.
+    pub fn plan(&self) -> Result<Arc<Plan>, NoMemory>
+        requires { IsSome (way_of (state_of self.now.node)) }
+        ensures { IfOk result (λ plan. way_of (state_of self.now.node) ≡ Some (arc_value plan)) }
+    {
+        match &self.plan {
+            Some(plan) => Ok(Arc::try_clone(plan)?),
+            None => unreachable!(),
+        }
+    }
+
+    /// Adds a hook that the type takes and the node lacks, and gives the plan that the node had before. Its box is at home.
+    ///
+    /// # Errors
+    /// `NoMemory` where memory ran out, and for nothing else; the node is then as before.
+    #[tactic(auto, using(crate::proofs::HookLemmas::added_removed, crate::proofs::NodeLemmas::lacks_hook, crate::proofs::NodeLemmas::lacks_names, crate::proofs::NodeLemmas::takes_may, crate::proofs::NodeLemmas::names_push))]
+    pub fn add(&mut self, alloc: Global, hook: Hook) -> Result<Option<Arc<Plan>>, NoMemory>
+        requires home { self.old.home ≡ true }
+        requires takes { AcceptsHook self.old.node hook.name }
+        ensures ok { OnOk result (self.new ≡ with_node self.old (with_hook self.old.node hook)) }
+        ensures undone { OnOk result (without_hook (with_hook self.old.node hook) hook.name ≡ self.old.node) }
+        ensures was { IfOk result (λ was. option_map arc_value was ≡ way_of (state_of self.old.node)) }
+        ensures err { OnErr result (self.new ≡ self.old) }
+    {
+        let Some(node) = &mut self.home else {
+            unreachable!()
+        };
+        self.hooks.push(hook)?;
+        match hook_and_plan(alloc, node, &hook.name) {
+            Ok(next) => Ok(mem::replace(&mut self.plan, next)),
+            Err(why) => {
+                self.hooks.remove(&hook.name);
+                Err(why)
+            }
+        }
+    }
+
+    /// Whether there is a hook of that name with that link.
+    pub fn has_link(&self, name: &Name, link: LinkId) -> bool
+        ensures { result ≡ is_some (linked_hook self.now.node name.now link) }
+    {
+        self.hooks.is_linked(name, link)
+    }
+
+    /// Takes the hook of that name away, if there is one with that link: whether there was. Its box is at home, and `next`
+    /// is the plan that the node has then.
+    #[tactic(auto, using(crate::proofs::NodeLemmas::linked_has, crate::proofs::NodeLemmas::names_without))]
+    pub fn leave(&mut self, name: &Name, link: LinkId, next: Option<Arc<Plan>>) -> bool
+        requires home { self.old.home ≡ true }
+        requires next { option_map arc_value next ≡ way_of (state_of (without_hook self.old.node name.now)) }
+        ensures answer { result ≡ is_some (linked_hook self.old.node name.now link) }
+        ensures after { self.new ≡ (if result then with_node self.old (without_hook self.old.node name.now) else self.old) }
+    {
+        let is_linked = self.hooks.is_linked(name, link);
+        if is_linked {
+            let Some(node) = &mut self.home else {
+                unreachable!()
+            };
+            node.cut(name);
+            self.hooks.remove(name);
+            self.plan = next;
+        }
+        is_linked
+    }
+
+    /// Lets packets out of the hook of that name, if there is one with that link: whether there was.
+    #[tactic(auto, using(crate::proofs::NodeLemmas::names_settle))]
+    pub fn settle(&mut self, name: &Name, link: LinkId) -> bool
+        ensures answer { result ≡ is_some (linked_hook self.old.node name.now link) }
+        ensures after { self.new ≡ (if result then with_node self.old (with_changed_hook self.old.node name.now settle_hook) else self.old) }
+    {
+        let is_linked = self.hooks.is_linked(name, link);
+        if is_linked {
+            self.hooks.settle(name);
+        }
+        is_linked
+    }
+
+    /// Gives the hook of that name another link and another peer, if there is one with that link: whether there was.
+    #[tactic(auto, using(crate::proofs::NodeLemmas::names_bind))]
+    pub fn rebind(&mut self, name: &Name, old: LinkId, new: LinkId, peer: End) -> bool
+        ensures answer { result ≡ is_some (linked_hook self.old.node name.now old) }
+        ensures after { self.new ≡ (if result then with_node self.old (with_changed_hook self.old.node name.now (bind_to new peer.node peer.hook)) else self.old) }
+    {
+        let is_linked = self.hooks.is_linked(name, old);
+        if is_linked {
+            self.hooks.bind(name, new, peer);
+        }
+        is_linked
+    }
+
+    /// Gives the node a name.
+    pub fn rename(&mut self, name: Name)
+        ensures { self.new ≡ with_node self.old (record (self.old.node) { name = Some name }) }
+    {
+        self.name = Some(name);
+    }
+
+    /// Hands out the box, which is then lent.
+    pub fn lend(&mut self) -> B
+        requires home { self.old.home ≡ true }
+        ensures state { B.state result ≡ state_of self.old.node }
+        ensures after { self.new ≡ record self.old { home = false } }
+    {
+        match self.home.take() {
+            Some(node) => {
+                self.was = Snapshot::of(&node);
+                node
+            }
+            None => unreachable!(),
+        }
+    }
+
+    /// Brings a box home, in place of one that is there: one of the node's kind and with its hooks. `next` is its plan.
+    pub fn give(&mut self, node: B, next: Option<Arc<Plan>>)
+        requires fits { FitsNode self.old.node (B.state node) }
+        requires next { option_map arc_value next ≡ way_of (B.state node) }
+        ensures { self.new ≡ record { node = with_kept (B.state node).kept self.old.node; home = true } }
+    {
+        self.home = Some(node);
+        self.plan = next;
+    }
+
+    /// The box, which is at home.
+    pub fn into_node(self) -> B
+        requires { self.home ≡ true }
+        ensures { B.state result ≡ state_of self.node }
+    {
+        let Entry { home, .. } = self;
+        match home {
+            Some(node) => node,
+            None => unreachable!(),
+        }
+    }
+}

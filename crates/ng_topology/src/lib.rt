@@ -1,0 +1,22 @@
+//! The graph of nodes: their hooks and links, the boxes of their types, at home or lent, and the blank boxes that are left.
+#![tactic(auto)]
+
+mod entry;
+mod graph;
+mod hooks;
+mod laws;
+mod names;
+mod places;
+mod plans;
+mod stock;
+#[cfg(test)]
+mod tests;
+
+pub use entry::Entry;
+pub use graph::{Graph, MakeFault};
+pub use hooks::Hooks;
+pub use laws::{
+    gives_are, lends_are, links_are, makes_are, retires_are, sets_are, soundness_stays, sprouts_are,
+};
+pub use places::Places;
+pub use stock::Stock;
