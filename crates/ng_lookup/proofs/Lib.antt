@@ -1,0 +1,4 @@
+pub mod AddressLemmas
+pub mod Naming
+pub mod Numbered
+pub mod Searching
