@@ -1,0 +1,28 @@
+-- The links of a bridge, found by the names of their hooks.
+use Rattle.std.proofs.Common.{◌≡◌, ℕ, List, [], ◌∷◌, Option, Some, None, find, if◌then◌else◌, refl, ap, inl, inr}
+use Rattle.std.specs.List.{list_any}
+use Rattle.std.specs.Option.{option_map}
+use Rattle.std.proofs.lemmas.Bool.{cases_Bool}
+use Rattle.ng_base.proofs.NameLemmas.{is_same}
+use Rattle.ng_machine.specs.declared.plan.BridgeLink.{BridgeLink}
+use Rattle.ng_machine.specs.Bridge.{is_link_of, mute_of}
+
+-- for how long a link that was found is mute
+abbrev pub mute_in : Option BridgeLink → ℕ
+mute_in None = 0
+mute_in (Some l) = l.mute
+
+pub mute_found : (links : List BridgeLink) (hook : List ℕ) → mute_of links hook ≡ mute_in (find (is_link_of hook) links)
+mute_found [] hook = refl
+mute_found (l ∷ links) hook = elim (cases_Bool (is_link_of hook l)) [
+  | inl is ↦ rw is refl
+  | inr other ↦ rw other (mute_found links hook)
+]
+
+pub named_found : (links : List BridgeLink) (hook : List ℕ)
+    → option_map (λ (l : BridgeLink). l.hook) (find (is_link_of hook) links) ≡ (if list_any (is_link_of hook) links then Some hook else None)
+named_found [] hook = refl
+named_found (l ∷ links) hook = elim (cases_Bool (is_link_of hook l)) [
+  | inl is ↦ rw is (ap Some (is_same l.hook hook is))
+  | inr other ↦ rw other (named_found links hook)
+]

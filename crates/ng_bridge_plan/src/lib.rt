@@ -1,0 +1,8 @@
+//! What a bridge works by, and what becomes of a frame at it: ng_bridge(4).
+#![tactic(auto)]
+
+mod bridge;
+mod links;
+
+pub use bridge::{BridgePlan, hosts_without};
+pub use links::links_without;
