@@ -1,0 +1,28 @@
+// What a plan is made of: for each type, lists in which its rule finds what it looks for.
+use crate::bpf::BpfPlan;
+use crate::etf::EtfPlan;
+use crate::macset::MacsetPlan;
+use crate::patch::PatchPlan;
+use crate::vlan::VlanPlan;
+use ng_base::{Kind, Names};
+use ng_bridge_plan::BridgePlan;
+use ng_lookup::Hooks;
+
+/// A plan, by the type of node.
+#[derive(Drop)]
+pub enum Form {
+    OfHole,
+    OfEcho,
+    OfHub(Names),
+    /// A tee or a split.
+    ByHooks { kind: Kind, hooks: Hooks },
+    OfVlan(VlanPlan),
+    OfPatch(PatchPlan),
+    OfBpf(BpfPlan),
+    /// An ether, which has the hook `lower` or not.
+    OfEther(bool),
+    OfSocket,
+    OfBridge(BridgePlan),
+    OfEtf(EtfPlan),
+    OfMacset(MacsetPlan),
+}

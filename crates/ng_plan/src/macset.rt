@@ -1,0 +1,98 @@
+// macset: parts frames by whether their source is in a set of addresses. The type is this project's own.
+ghost use Rattle.std.specs.Prelude.{◌≡◌, ◌∷◌, [], IfOk};
+ghost use Rattle.ng_machine.specs.Macset.{goes_by, has_address, picks, sifts};
+ghost use Rattle.ng_plan.specs.Without.{plan_without};
+
+use ng_base::{Errno, Name, NoMemory, Packet, Sequence};
+use ng_frame::MIN_FRAME_LEN;
+use ng_lookup::{
+    Hooks, Table, address_number, all_hook, fails, is_named, known_hook, nothing, other_hook,
+    same_address, send, send_by, source_of,
+};
+use ng_machine::{Door, Outcome, Plan as Way};
+use std::alloc::Global;
+
+/// The number of the counter `knownFrames`.
+const KNOWN_FRAMES: u64 = 0;
+
+/// The number of the counter `otherFrames`.
+const OTHER_FRAMES: u64 = 1;
+
+/// What a macset works by: its hooks and its addresses.
+#[derive(Drop)]
+pub struct MacsetPlan {
+    pub hooks: Hooks,
+    pub set: Table<[u8; 6]>,
+}
+
+/// Whether an address is in the set.
+fn has_address(set: &Table<[u8; 6]>, address: &[u8; 6]) -> bool
+    ensures { result ≡ has_address set.now address.now }
+{
+    match set.find(address_number(address)) {
+        Some(other) => {
+            same_address(other, address);
+            true
+        }
+        None => false,
+    }
+}
+
+impl MacsetPlan {
+    /// The way without a hook.
+    pub fn without(&self, alloc: Global, hook: &Name) -> Result<Way, NoMemory>
+        ensures { IfOk result (λ way. way ≡ plan_without (Way.Macset self.now.hooks self.now.set) hook.now) }
+    {
+        Ok(Way::Macset {
+            hooks: self.hooks.without(alloc, hook)?,
+            set: Sequence::from_vec(Vec::from_slice(alloc, self.set.as_slice())?),
+        })
+    }
+
+    /// A frame goes out of a hook, where that is there, and is counted.
+    fn go_by(
+        &self,
+        alloc: Global,
+        out: &Name,
+        number: u64,
+        hook: &Name,
+        frame: &Packet,
+    ) -> Result<Outcome, NoMemory>
+        ensures { IfOk result (λ outcome. outcome ≡ goes_by self.now.hooks out.now number hook.now frame.now) }
+    {
+        if !self.hooks.has(out) {
+            return Ok(nothing(alloc));
+        }
+        let mut counts = Sequence::new(alloc);
+        counts.push((*hook, number, 1))?;
+        Ok(Outcome {
+            counts,
+            ..send(alloc, out, frame)?
+        })
+    }
+
+    /// A packet that comes by `all`.
+    fn sift(&self, alloc: Global, hook: &Name, frame: &Packet) -> Result<Outcome, NoMemory>
+        ensures { IfOk result (λ outcome. outcome ≡ sifts self.now.hooks self.now.set hook.now frame.now) }
+    {
+        if frame.bytes().len() < MIN_FRAME_LEN {
+            return Ok(fails(alloc, Errno::INVAL));
+        }
+        if has_address(&self.set, &source_of(frame.bytes())) {
+            self.go_by(alloc, &known_hook(), KNOWN_FRAMES, hook, frame)
+        } else {
+            self.go_by(alloc, &other_hook(), OTHER_FRAMES, hook, frame)
+        }
+    }
+
+    /// What becomes of a packet.
+    pub fn work(&self, alloc: Global, door: &Door, frame: &Packet) -> Result<Outcome, NoMemory>
+        ensures { IfOk result (λ outcome. outcome ≡ picks self.now.hooks self.now.set door.now frame.now) }
+    {
+        match door {
+            Door::Hook(hook) if is_named(hook, b"all") => self.sift(alloc, hook, frame),
+            Door::Hook(_) => send_by(alloc, &self.hooks, &all_hook(), frame),
+            Door::Wire => Ok(nothing(alloc)),
+        }
+    }
+}

@@ -1,0 +1,137 @@
+// ng_vlan(4): parts the frames of VLANs by their tags, and tags them on the way back.
+ghost use Rattle.std.specs.Prelude.{◌≡◌, IfOk, Some};
+ghost use Rattle.std.specs.Int.{to_be_bytes, w16};
+ghost use Rattle.std.specs.Option.{option_copied};
+ghost use Rattle.ng_frame.specs.Frame.{IsTagged, tag_of};
+ghost use Rattle.ng_machine.specs.Vlan.{by_tag, control_of, into_filter, out_of_filter, tags, without_filters_of};
+ghost use Rattle.ng_plan.specs.Without.{plan_without};
+
+use ng_base::{Errno, Name, NoMemory, Packet, Sequence};
+use ng_frame::{MAX_UNTAGGED_LEN, MIN_FRAME_LEN, untag, with_tag, without_tag};
+use ng_lookup::{Filters, Hooks, downstream, fails, is_named, nomatch, nothing, send_by};
+use ng_machine::{Door, Outcome, Plan as Way, VlanWay};
+use std::alloc::Global;
+
+/// What a vlan node works by: its hooks, the tag protocol identifier of its tags, and its filters.
+#[derive(Drop)]
+pub struct VlanPlan {
+    pub hooks: Hooks,
+    pub kind: u16,
+    pub filters: Filters,
+}
+
+/// The tag control information of a filter's tags, in 16 bits.
+fn control_of(filter: &VlanWay) -> u16
+    ensures { to_be_bytes w16 result ≡ to_be_bytes w16 (control_of filter.now) }
+{
+    let VlanWay { vlan, pcp, cfi, .. } = *filter;
+    let control = u32::from(pcp) * 8_192 + u32::from(cfi) * 4_096 + u32::from(vlan);
+    (control % 65_536) as u16
+}
+
+/// The filters without those of a hook.
+fn filters_without(
+    alloc: Global,
+    filters: &[VlanWay],
+    hook: &Name,
+) -> Result<Vec<VlanWay>, NoMemory>
+    ensures { IfOk result (λ kept. kept.items ≡ without_filters_of hook.now filters.now) }
+{
+    let mut kept = Vec::from_slice(alloc, filters)?;
+    kept.retain(|filter| filter.hook != *hook);
+    Ok(kept)
+}
+
+impl VlanPlan {
+    /// The way without a hook, whose filter goes with it.
+    pub fn without(&self, alloc: Global, hook: &Name) -> Result<Way, NoMemory>
+        ensures { IfOk result (λ way. way ≡ plan_without (Way.Vlan self.now.hooks self.now.kind self.now.filters) hook.now) }
+    {
+        Ok(Way::Vlan {
+            hooks: self.hooks.without(alloc, hook)?,
+            kind: self.kind,
+            filters: Sequence::from_vec(filters_without(alloc, self.filters.as_slice(), hook)?),
+        })
+    }
+
+    /// A tagged frame out of its filter's hook without the tag, and out of `nomatch` where there is none.
+    fn send_untagged(
+        &self,
+        alloc: Global,
+        filter: Option<&VlanWay>,
+        frame: &Packet,
+    ) -> Result<Outcome, NoMemory>
+        requires { IsTagged self.now.kind frame.now }
+        ensures { IfOk result (λ outcome. outcome ≡ out_of_filter self.now.hooks (option_copied filter.entry) frame.now) }
+    {
+        match filter {
+            None => send_by(alloc, &self.hooks, &nomatch(), frame),
+            Some(filter) => {
+                let plain = without_tag(alloc, frame.bytes(), self.kind).map_err(|_| NoMemory)?;
+                let untagged = Packet::new(alloc, &plain)?;
+                send_by(alloc, &self.hooks, &filter.hook, &untagged)
+            }
+        }
+    }
+
+    /// A packet that comes by `downstream`.
+    fn part_by_tag(&self, alloc: Global, frame: &Packet) -> Result<Outcome, NoMemory>
+        ensures { IfOk result (λ outcome.
+            outcome ≡ by_tag self.now.hooks self.now.filters (tag_of self.now.kind frame.now) frame.now) }
+    {
+        match untag(frame.bytes(), self.kind) {
+            None => send_by(alloc, &self.hooks, &nomatch(), frame),
+            Some((number, _)) => self.send_untagged(alloc, self.filters.of_number(number), frame),
+        }
+    }
+
+    /// A frame out of `downstream` with a filter's tag.
+    fn send_tagged(
+        &self,
+        alloc: Global,
+        filter: &VlanWay,
+        frame: &Packet,
+    ) -> Result<Outcome, NoMemory>
+        ensures { IfOk result (λ outcome. outcome ≡ into_filter self.now.hooks self.now.kind (Some filter.now) frame.now) }
+    {
+        let len = frame.bytes().len();
+        if len < MIN_FRAME_LEN {
+            return Ok(fails(alloc, Errno::INVAL));
+        }
+        if len > MAX_UNTAGGED_LEN {
+            return Ok(fails(alloc, Errno::MSGSIZE));
+        }
+        let control = control_of(filter);
+        let bytes = with_tag(alloc, frame.bytes(), self.kind, control).map_err(|_| NoMemory)?;
+        let tagged = Packet::new(alloc, &bytes)?;
+        send_by(alloc, &self.hooks, &downstream(), &tagged)
+    }
+
+    /// A packet that comes by a hook.
+    fn work_by(&self, alloc: Global, hook: &Name, frame: &Packet) -> Result<Outcome, NoMemory>
+        ensures { IfOk result (λ outcome.
+            outcome ≡ tags self.now.hooks self.now.kind self.now.filters (Door.Hook hook.now) frame.now) }
+    {
+        if is_named(hook, b"downstream") {
+            self.part_by_tag(alloc, frame)
+        } else if is_named(hook, b"nomatch") {
+            send_by(alloc, &self.hooks, &downstream(), frame)
+        } else {
+            match self.filters.of_hook(hook) {
+                None => Ok(fails(alloc, Errno::NOTCONN)),
+                Some(filter) => self.send_tagged(alloc, filter, frame),
+            }
+        }
+    }
+
+    /// What becomes of a packet.
+    pub fn work(&self, alloc: Global, door: &Door, frame: &Packet) -> Result<Outcome, NoMemory>
+        ensures { IfOk result (λ outcome.
+            outcome ≡ tags self.now.hooks self.now.kind self.now.filters door.now frame.now) }
+    {
+        match door {
+            Door::Hook(hook) => self.work_by(alloc, hook, frame),
+            Door::Wire => Ok(nothing(alloc)),
+        }
+    }
+}
