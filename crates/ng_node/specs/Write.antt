@@ -1,20 +1,17 @@
 -- What a node may be given to work on, and its state after it.
-use Rattle.std.specs.Prelude.{◌≡◌, ℕ, true, false, List, Some}
-use Rattle.ng_machine.specs.declared.outcome.Outcome.{Outcome}
-use Rattle.ng_machine.specs.Outcome.{nothing}
-use Rattle.ng_base.specs.Kind.{same_kind}
+use Rattle.std.specs.Prelude.{◌≡◌, true, false}
+use Rattle.ng_base.specs.Kind.{cookie_of, same_kind}
 use Rattle.ng_base.specs.Names.{has_name}
 use Rattle.ng_base.specs.declared.kind.Kind.TheVariants.{Bridge, Ether}
+use Rattle.ng_message.specs.Numbers.{is_reader_number}
 use Rattle.ng_message.specs.declared.message.Msg.{Msg as Message}
 use Rattle.ng_machine.specs.declared.body.Body.{Body}
 use Rattle.ng_machine.specs.declared.body.Body.TheVariants.{Frame, Msg, Join2, Join3, Undo, Leave, Rebind, Tick, Learn}
 use Rattle.ng_machine.specs.declared.body.Door.TheVariants.{Wire, Hook}
-use Rattle.ng_message.specs.Numbers.{is_reader_number}
-use Rattle.ng_base.specs.Kind.{cookie_of}
 use Rattle.ng_machine.specs.State.{State, kind_of}
 use Rattle.ng_machine.specs.Case.{kept_after}
 
--- a body leaves the hooks and changes the part by the case table
+-- a body leaves the hooks, and changes what the kind keeps by the case table
 abbrev pub state_after : State → Body → State
 state_after state body = record state { kept = kept_after state body }
 
@@ -36,7 +33,3 @@ IsWritable state (Join3 hook link) = ⊥
 IsWritable state (Undo hook link errno) = ⊥
 IsWritable state (Leave hook link) = ⊥
 IsWritable state (Rebind hook old new peer peer_hook) = ⊥
-
--- bytes are answered, and nothing else
-abbrev pub told : List ℕ → Outcome
-told bytes = record nothing { answer = Some bytes }

@@ -5,9 +5,6 @@ ghost use Rattle.ng_machine.specs.Counters.{after_counts, at_row, count_row, rai
 
 use ng_base::Name;
 
-/// A name and its counters.
-pub type NodeRecord<const N: usize> = (Name, [u64; N]);
-
 fn raise<const N: usize>(counters: &mut [u64; N], number: u64, amount: u64)
     ensures { counters.new ≡ raise_at counters.old number amount }
 {

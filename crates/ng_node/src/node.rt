@@ -9,8 +9,9 @@ ghost use Rattle.ng_machine.specs.State.{State, kind_of, add_hook, cut_hook, way
 ghost use Rattle.ng_node.specs.Write.{IsAsked, IsWritable, state_after};
 
 use ng_base::{Errno, Kind, Name, NoMemory};
-use ng_machine::{Body, Counts, Farewell, Outcome, Plan};
+use ng_machine::{Body, Counts, Farewell, Outcome};
 use ng_message::Msg;
+use ng_plan::Plan;
 use std::alloc::Global;
 use std::sync::Arc;
 

@@ -10,8 +10,9 @@ ghost use Rattle.ng_topology.specs.Topology.{FitsNode, change_at, linked_hook_at
 
 use crate::Entry;
 use ng_base::{LinkId, Name, NoMemory, NodeId};
-use ng_machine::{End, Hook, Plan};
+use ng_machine::{End, Hook};
 use ng_node::Node;
+use ng_plan::Plan;
 use std::alloc::Global;
 use std::marker::Model;
 use std::mem;

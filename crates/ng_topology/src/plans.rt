@@ -7,8 +7,8 @@ ghost use Rattle.ng_machine.specs.Rules.{may_of};
 ghost use Rattle.ng_machine.specs.State.{kind_of, add_hook, cut_hook, way_of};
 
 use ng_base::{Name, NoMemory};
-use ng_machine::Plan;
 use ng_node::Node;
+use ng_plan::Plan;
 use std::alloc::Global;
 use std::sync::Arc;
 

@@ -12,8 +12,8 @@ ghost use Rattle.ng_topology.specs.FirstOfKind.{IsFirstOf};
 
 use crate::plans::hook_and_plan;
 use ng_base::{Errno, Kind, Name, NoMemory};
-use ng_machine::Plan;
 use ng_node::Node;
+use ng_plan::Plan;
 use std::alloc::Global;
 use std::marker::Model;
 use std::sync::Arc;

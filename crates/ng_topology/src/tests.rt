@@ -1,5 +1,5 @@
 // A graph as orders change it, step by step.
-ghost use Rattle.std.specs.Prelude.{◌≡◌, ◌≢◌, ◌+◌, ◌<◌, ◌≤◌, All, length, IfOk, OnOk};
+ghost use Rattle.std.specs.Prelude.{◌≡◌, ◌+◌, ◌<◌, ◌≤◌, All, length, IfOk, OnOk};
 ghost use Rattle.ng_base.specs.declared.ids.NodeId.{NodeId};
 ghost use Rattle.ng_machine.specs.State.{kind_of, blank_of};
 ghost use Rattle.ng_topology.specs.Topology.{IsAtHome};
@@ -7,8 +7,9 @@ ghost use Rattle.ng_topology.specs.Topology.{IsAtHome};
 use crate::Graph;
 use ng_base::{Errno, Kind, LinkId, Name, NodeId};
 use ng_machine::End;
-use ng_node::{EchoNode, Node, blank_echo, blank_socket, blank_tee};
+use ng_node::Node;
 use ng_path::read_path;
+use ng_simple_types::{EchoNode, blank_echo, blank_hub};
 use std::alloc::Global;
 use std::test::Fail;
 
@@ -135,21 +136,28 @@ fn echoes(alloc: Global, n: usize) -> Result<Graph<EchoNode>, Fail>
     Ok(graph)
 }
 
+// A node of the name ngctl, and one behind its hook a, which has the link 1; another echo is left.
+fn pair(alloc: Global) -> Result<(Graph<EchoNode>, NodeId, NodeId), Fail>
+    ensures own { IfOk result (λ made. IsAtHome made.0 made.1) }
+    ensures one { IfOk result (λ made. IsAtHome made.0 made.2) }
+    ensures links { IfOk result (λ made. made.0.next_link ≡ 2) }
+{
+    let mut graph = echoes(alloc, 3)?;
+    let own = make(&mut graph, alloc, Kind::Echo, b"ngctl")?;
+    let one = sprout(&mut graph, alloc, &end(own, b"a")?, Kind::Echo, b"x")?;
+    Ok((graph, own, one))
+}
+
 // A connect to a hook that is there is refused, and what it made before is undone.
 #[test]
 fn a_hook_that_is_there_is_refused(rt: HostRuntime) -> Result<(), Fail> {
     let alloc = rt.alloc();
-    let mut graph = echoes(alloc, 3)?;
-    let own = make(&mut graph, alloc, Kind::Echo, b"ngctl")?;
-    let one = sprout(&mut graph, alloc, &end(own, b"a")?, Kind::Echo, b"x")?;
-    let two = sprout(&mut graph, alloc, &end(own, b"b")?, Kind::Echo, b"y")?;
-    rename(&mut graph, alloc, two, b"hb")?;
-    assert_eq!(rt; graph.walk(own, &read_path(b"hb:")?), Some(two));
+    let (mut graph, own, one) = pair(alloc)?;
     let ours = end(one, b"u")?;
-    let theirs = end(two, b"y")?;
+    let theirs = end(own, b"a")?;
     let link = add_half(&mut graph, alloc, &ours, &theirs)?;
-    assert_eq!(rt; link, LinkId(3));
-    assert_eq!(rt; graph.may(two, &theirs.hook), Err(Errno::EXIST));
+    assert_eq!(rt; link, LinkId(2));
+    assert_eq!(rt; graph.may(own, &theirs.hook), Err(Errno::EXIST));
     assert!(rt; leave(&mut graph, &ours, link)?);
     assert!(rt; graph.peer(one, &ours.hook).is_none());
     Ok(())
@@ -159,54 +167,25 @@ fn a_hook_that_is_there_is_refused(rt: HostRuntime) -> Result<(), Fail> {
 #[test]
 fn a_leave_over_an_old_link_changes_nothing(rt: HostRuntime) -> Result<(), Fail> {
     let alloc = rt.alloc();
-    let mut graph = echoes(alloc, 6)?;
-    let own = make(&mut graph, alloc, Kind::Echo, b"ngctl")?;
-    let port = make(&mut graph, alloc, Kind::Echo, b"em0")?;
-    let one = sprout(&mut graph, alloc, &end(port, b"lower")?, Kind::Echo, b"l")?;
-    let two = sprout(&mut graph, alloc, &end(one, b"x")?, Kind::Echo, b"y")?;
-    sprout(&mut graph, alloc, &end(two, b"k")?, Kind::Echo, b"k")?;
-    let at = end(two, b"y")?;
-    assert!(rt; leave(&mut graph, &at, LinkId(2))?);
-    assert_eq!(rt; graph.walk(own, &read_path(b"em0:lower.x")?), Some(two));
+    let (mut graph, own, _one) = pair(alloc)?;
+    let at = end(own, b"a")?;
+    assert!(rt; leave(&mut graph, &at, LinkId(1))?);
     sprout(&mut graph, alloc, &at, Kind::Echo, b"h")?;
-    assert!(rt; !leave(&mut graph, &at, LinkId(2))?);
-    assert!(rt; graph.has_link(two, &at.hook, LinkId(4)));
+    assert!(rt; !leave(&mut graph, &at, LinkId(1))?);
+    assert!(rt; graph.has_link(own, &at.hook, LinkId(2)));
     Ok(())
 }
 
-// Takes a node out.
-fn retire<B: Node>(graph: &mut Graph<B>, id: NodeId) -> B
-    requires home { IsAtHome graph.old id }
-    ensures homes { (k : NodeId) → k.0 ≢ id.0 → IsAtHome graph.old k → IsAtHome graph.new k }
-    ensures links { graph.new.next_link ≡ graph.old.next_link }
-{
-    graph.retire(id)
-}
-
-// A node goes at a shutdown, its peer as its last hook goes, and what was sent to the peer is undone.
+// A node goes at a shutdown, and nothing leads to it.
 #[test]
-fn a_node_goes_with_its_last_hook(rt: HostRuntime) -> Result<(), Fail> {
+fn a_node_goes_with_its_name(rt: HostRuntime) -> Result<(), Fail> {
     let alloc = rt.alloc();
-    let mut graph = echoes(alloc, 4)?;
-    let own = make(&mut graph, alloc, Kind::Echo, b"ngctl")?;
-    let one = sprout(&mut graph, alloc, &end(own, b"a")?, Kind::Echo, b"x")?;
-    let two = sprout(&mut graph, alloc, &end(one, b"p")?, Kind::Echo, b"q")?;
-    rename(&mut graph, alloc, two, b"nb")?;
-    let three = sprout(&mut graph, alloc, &end(own, b"d")?, Kind::Echo, b"y")?;
-    assert!(rt; own.0 != one.0 && two.0 != one.0 && three.0 != one.0);
-    assert!(rt; own.0 != two.0 && three.0 != two.0);
-    let _one = retire(&mut graph, one);
-    assert_eq!(rt; graph.walk(own, &read_path(b"a.p")?), None);
-    assert!(rt; leave(&mut graph, &end(two, b"q")?, LinkId(2))?);
-    let half = end(three, b"u")?;
-    let link = add_half(&mut graph, alloc, &half, &end(two, b"v")?)?;
-    let _two = retire(&mut graph, two);
+    let (mut graph, own, one) = pair(alloc)?;
+    rename(&mut graph, alloc, one, b"nb")?;
+    assert_eq!(rt; graph.walk(own, &read_path(b"nb:")?), Some(one));
+    let _node = graph.retire(one);
+    assert_eq!(rt; graph.walk(own, &read_path(b"a")?), None);
     assert_eq!(rt; graph.named(&Name::read(b"nb")?), None);
-    assert!(rt; leave(&mut graph, &half, link)?);
-    assert!(rt; leave(&mut graph, &end(own, b"a")?, LinkId(1))?);
-    graph.soundness();
-    assert_eq!(rt; graph.hooks(own).len(), 1);
-    assert_eq!(rt; graph.hooks(three).len(), 1);
     Ok(())
 }
 
@@ -224,20 +203,19 @@ fn a_hook_gets_another_peer(rt: HostRuntime) -> Result<(), Fail> {
     Ok(())
 }
 
-// A walk, and a box that goes and comes home, in a graph of a socket, a tee and an echo.
+// A walk, and a box that goes and comes home, in a graph of a hub and an echo.
 fn walk_and_lend<B: Node>(alloc: Global, stock: Vec<B>) -> Result<Option<NodeId>, Fail>
     requires few { length stock.items ≤ 4000000000 }
     requires blank { All (λ b. B.state b ≡ blank_of (kind_of (B.state b))) stock.items }
 {
     let mut graph = Graph::new(alloc, stock)?;
-    let own = make(&mut graph, alloc, Kind::Socket, b"ngctl")?;
-    let tee = sprout(&mut graph, alloc, &end(own, b"a")?, Kind::Tee, b"left")?;
-    let _echo = sprout(&mut graph, alloc, &end(tee, b"right")?, Kind::Echo, b"x")?;
+    let own = make(&mut graph, alloc, Kind::Hub, b"ngctl")?;
+    let echo = sprout(&mut graph, alloc, &end(own, b"a")?, Kind::Echo, b"x")?;
     graph.soundness();
-    let node = graph.lend(tee);
+    let node = graph.lend(echo);
     let plan = node.plan(alloc)?;
-    graph.give(tee, node, plan);
-    Ok(graph.walk(own, &read_path(b"a.right")?))
+    graph.give(echo, node, plan);
+    Ok(graph.walk(own, &read_path(b"a")?))
 }
 
 #[test]
@@ -245,8 +223,7 @@ fn a_graph_has_boxes_of_several_types(rt: HostRuntime) -> Result<(), Fail> {
     let alloc = rt.alloc();
     let mut stock: Vec<Box<dyn Node + Send>> = Vec::new(alloc);
     stock.push(Box::new(alloc, blank_echo(alloc)?)?)?;
-    stock.push(Box::new(alloc, blank_tee(alloc)?)?)?;
-    stock.push(Box::new(alloc, blank_socket(alloc)?)?)?;
-    assert_eq!(rt; walk_and_lend(alloc, stock)?, Some(NodeId(3)));
+    stock.push(Box::new(alloc, blank_hub(alloc)?)?)?;
+    assert_eq!(rt; walk_and_lend(alloc, stock)?, Some(NodeId(2)));
     Ok(())
 }

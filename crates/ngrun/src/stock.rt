@@ -6,9 +6,11 @@ ghost use Rattle.ng_run.specs.Ends.{EndsBy};
 ghost use Rattle.ngrun.specs.Program.{stocked};
 
 use ng_base::NoMemory;
-use ng_node::{Node, blank_echo, blank_socket};
+use ng_edge_types::blank_socket;
+use ng_node::Node;
 use ng_outside::{Files, Sink};
 use ng_run::{Ended, ngrun};
+use ng_simple_types::blank_echo;
 use std::alloc::Global;
 
 // So many echo nodes can be made.

@@ -1,8 +1,10 @@
 // A run over one file and one sink in memory, and what came of it.
 use crate::{Ended, Fault, ngrun};
 use ng_base::{Event, NoMemory};
-use ng_node::{Node, blank_echo, blank_socket};
+use ng_edge_types::blank_socket;
+use ng_node::Node;
 use ng_outside::{Files, MemFile, MemFiles, MemSink, Sink};
+use ng_simple_types::blank_echo;
 use std::alloc::{AllocError, Global};
 use std::process::Abort;
 

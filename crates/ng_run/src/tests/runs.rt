@@ -2,7 +2,7 @@
 use super::over::{ECHO, ECHO_TEXT, ROOM, check_text, feeds, file, run, run_bytes, sink, words_of};
 use crate::run_words;
 use ng_base::{Event, ItemId};
-use ng_node::blank_socket;
+use ng_edge_types::blank_socket;
 use ng_outside::{StdFiles, StdSink};
 use std::alloc::{AllocError, Global};
 use std::test::Fail;

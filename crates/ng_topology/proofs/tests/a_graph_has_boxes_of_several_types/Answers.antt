@@ -1,10 +1,9 @@
 -- Each box is blank as it was made.
 use Rattle.std.proofs.Common.{◌≡◌, ◌∙◌, [], ap, subst, sym, arith}
-use Rattle.std.proofs.lemmas.List.Elements.{All-push}
-use Rattle.ng_base.specs.declared.kind.Kind.TheVariants.{Echo, Socket, Tee}
-use Rattle.ng_machine.specs.State.{State, kind_of, blank_of}
+use Rattle.ng_base.specs.declared.kind.Kind.TheVariants.{Echo, Hub}
+use Rattle.ng_machine.specs.State.{blank_of}
 use Rattle.ng_topology.proofs.NodeLemmas.{blank_push}
-use Rattle.ng_topology.proofs.tests.a_graph_has_boxes_of_several_types.OwnLists.{own-1, at-1-1, at-1-2, at-1-3}
+use Rattle.ng_topology.proofs.tests.a_graph_has_boxes_of_several_types.OwnLists.{own-1, at-1-1, at-1-2}
 use Rattle.ng_topology.proofs.tests.a_graph_has_boxes_of_several_types.Goals as goal
 
 pub walk_and_lend-requires-clause-blank : goal.walk_and_lend-requires-clause-blank
@@ -12,15 +11,10 @@ walk_and_lend-requires-clause-blank g c κs =
     let echo =
     subst (λ i. (y : (own-1.entry i).0.Denot) → (own-1.entry i).0.coded.code y ≡ (own-1.entry at-1-1).0.coded.code c.in_ok-new.field-0.value → (own-1.entry i).1.state y ≡ blank_of Echo) (sym c.into_dyn_box.ensures.1.index)
     (λ y same. ap (own-1.entry at-1-1).1.state ((own-1.entry at-1-1).0.coded.inj y c.in_ok-new.field-0.value same) ∙ ap (own-1.entry at-1-1).1.state c.in_ok-new.ensures.ok ∙ c.in_ok-blank_echo.ensures) _ c.into_dyn_box.ensures.1.codes in
-    let tee =
-    subst (λ i. (y : (own-1.entry i).0.Denot) → (own-1.entry i).0.coded.code y ≡ (own-1.entry at-1-2).0.coded.code c.in_ok-new-2.field-0.value → (own-1.entry i).1.state y ≡ blank_of Tee) (sym c.into_dyn_box-in_ok-new-2.ensures.1.index)
-    (λ y same. ap (own-1.entry at-1-2).1.state ((own-1.entry at-1-2).0.coded.inj y c.in_ok-new-2.field-0.value same) ∙ ap (own-1.entry at-1-2).1.state c.in_ok-new-2.ensures.ok ∙ c.in_ok-blank_tee.ensures) _ c.into_dyn_box-in_ok-new-2.ensures.1.codes in
-    let socket =
-    subst (λ i. (y : (own-1.entry i).0.Denot) → (own-1.entry i).0.coded.code y ≡ (own-1.entry at-1-3).0.coded.code c.in_ok-new-3.field-0.value → (own-1.entry i).1.state y ≡ blank_of Socket) (sym c.into_dyn_box-in_ok-new-3.ensures.1.index)
-    (λ y same. ap (own-1.entry at-1-3).1.state ((own-1.entry at-1-3).0.coded.inj y c.in_ok-new-3.field-0.value same) ∙ ap (own-1.entry at-1-3).1.state c.in_ok-new-3.ensures.ok ∙ c.in_ok-blank_socket.ensures) _ c.into_dyn_box-in_ok-new-3.ensures.1.codes in
-    rw c.in_ok-push-3.ensures.items
-    (blank_push (λ b. (own-1.entry b.vtable).1.state b.value) _ _ Socket
-    (rw c.in_ok-push-2.ensures.items
-    (blank_push (λ b. (own-1.entry b.vtable).1.state b.value) _ _ Tee
+    let hub =
+    subst (λ i. (y : (own-1.entry i).0.Denot) → (own-1.entry i).0.coded.code y ≡ (own-1.entry at-1-2).0.coded.code c.in_ok-new-2.field-0.value → (own-1.entry i).1.state y ≡ blank_of Hub) (sym c.into_dyn_box-in_ok-new-2.ensures.1.index)
+    (λ y same. ap (own-1.entry at-1-2).1.state ((own-1.entry at-1-2).0.coded.inj y c.in_ok-new-2.field-0.value same) ∙ ap (own-1.entry at-1-2).1.state c.in_ok-new-2.ensures.ok ∙ c.in_ok-blank_hub.ensures) _ c.into_dyn_box-in_ok-new-2.ensures.1.codes in
+    rw c.in_ok-push-2.ensures.items
+    (blank_push (λ b. (own-1.entry b.vtable).1.state b.value) _ _ Hub
     (rw c.in_ok-push.ensures.items
-    (blank_push (λ b. (own-1.entry b.vtable).1.state b.value) _ _ Echo (rw c.new-stock.ensures.items (λ k d below. absurd (omega arith))) echo)) tee)) socket)
+    (blank_push (λ b. (own-1.entry b.vtable).1.state b.value) _ _ Echo (rw c.new-stock.ensures.items (λ k d below. absurd (omega arith))) echo)) hub)

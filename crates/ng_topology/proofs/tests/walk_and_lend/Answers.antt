@@ -7,5 +7,5 @@ use Rattle.ng_topology.proofs.tests.walk_and_lend.Goals as goal
 
 pub give-requires-clause-fits : goal.give-requires-clause-fits
 give-requires-clause-fits g c κs within = λ node there.
-    let same = c.lend-node.ensures.state node (sym (ap (λ (t : Topology). node_in t.nodes c.in_ok-tee.tee) c.lend-node.ensures.after) ∙ there) in
+    let same = c.lend-node.ensures.state node (sym (ap (λ (t : Topology). node_in t.nodes c.in_ok-echo.echo) c.lend-node.ensures.after) ∙ there) in
     record { kind = ap kind_of same; hooks = ap (λ (s : State). s.hooks) same }

@@ -1,0 +1,14 @@
+//! The types of nodes that keep next to nothing: hub, hole, echo and split.
+#![tactic(auto)]
+
+mod echo;
+mod hole;
+mod hub;
+mod split;
+#[cfg(test)]
+mod tests;
+
+pub use echo::{EchoNode, blank_echo};
+pub use hole::{HoleNode, blank_hole};
+pub use hub::{HubNode, blank_hub};
+pub use split::{SplitNode, blank_split};
