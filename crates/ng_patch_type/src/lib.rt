@@ -1,0 +1,9 @@
+//! ng_patch(4): the type of node that changes packets by arithmetic at places.
+#![tactic(auto)]
+
+mod node;
+mod operations;
+#[cfg(test)]
+mod tests;
+
+pub use node::{PatchNode, blank_patch};
