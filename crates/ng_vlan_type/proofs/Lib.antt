@@ -1,0 +1,4 @@
+mod InOrder
+mod Searching
+mod Hooks
+mod Refusals

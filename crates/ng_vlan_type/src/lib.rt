@@ -1,0 +1,10 @@
+//! ng_vlan(4): the type of node that parts frames by the tags of their VLANs.
+#![tactic(auto)]
+
+mod filters;
+mod messages;
+mod node;
+#[cfg(test)]
+mod tests;
+
+pub use node::{VlanNode, blank_vlan};
