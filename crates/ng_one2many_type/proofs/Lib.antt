@@ -1,0 +1,5 @@
+pub mod Asked
+pub mod HookNames
+pub mod Links
+pub mod RowLists
+pub mod States
