@@ -1,0 +1,4 @@
+pub mod Digits
+pub mod Mapped
+pub mod PortLists
+pub mod Cuts

@@ -1,0 +1,9 @@
+pub mod Numbers
+pub mod Lists
+pub mod Ports
+pub mod Options
+pub mod Settings
+pub mod Together
+pub mod Run
+pub mod Replay
+pub mod Forecast
