@@ -1,0 +1,8 @@
+//! Messages by their names: which message of a node a name and a text ask for.
+#![tactic(auto)]
+
+mod reading;
+#[cfg(test)]
+mod tests;
+
+pub use reading::{Found, read_message};
