@@ -1,0 +1,4 @@
+pub mod MoreInputs
+pub mod OfDesks
+pub mod AtWork
+pub mod SoundStories

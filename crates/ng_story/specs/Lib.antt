@@ -1,0 +1,7 @@
+pub mod Story
+pub mod Closing
+pub mod SoundStory
+pub mod Desks
+pub mod Work
+pub mod StoryLaws
+pub mod DeskLaws
