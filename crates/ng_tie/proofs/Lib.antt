@@ -1,0 +1,5 @@
+pub mod SortedItems
+pub mod OfQueues
+pub mod Heads
+pub mod OnceTaken
+pub mod Leaving
