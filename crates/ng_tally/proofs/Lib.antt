@@ -1,0 +1,4 @@
+pub mod CountsOfWorld
+pub mod LowCounts
+pub mod Refusals
+pub mod Dropping

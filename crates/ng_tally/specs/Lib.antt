@@ -1,0 +1,3 @@
+pub mod Tally
+pub mod Feeding
+pub mod TallyLaws
