@@ -1,0 +1,8 @@
+//! The items that wait, in the queues of their nodes, and the counts of the world: what a step of the machine does to both.
+#![tactic(auto)]
+
+mod pending;
+#[cfg(test)]
+mod tests;
+
+pub use pending::Pending;
