@@ -1,0 +1,21 @@
+use Rattle.std.proofs.Common.{◌≡◌, ◌∙◌, true, not, sym, ap, subst, arith}
+use Rattle.std.specs.Prelude.{nat_lt}
+use Rattle.ng_machine.specs.Change.{frames, most_frames}
+use Rattle.ng_machine.specs.World.{World}
+use Rattle.ng_pending.specs.Holds.{in_world}
+use Rattle.ng_world.specs.Stands.{Stands}
+use Rattle.ng_world.proofs.SentItems.{kind_node, send_accepts}
+use Rattle.ng_world.proofs.state.State.send.Goals as goal
+
+pub returns-clause-stands : goal.returns-clause-stands
+returns-clause-stands g c = λ a S.
+    let k = kind_node c.args.self.now.graph.nodes a.world.nodes c.args.hook.peer.node c.in-Some.kind S.graph.nodes (sym c.kind.ensures ∙ c.in-Some.is) in
+    let lt : nat_lt (frames a.world) most_frames ≡ true = c.is_full.ensures a S.items ∙ ap not c.if-is_full.false in
+    let joined : c.args.hook.joined ≡ true = grind (arith, c.if-not-hook.false) in
+    subst (λ (w : World). Stands c.accept.new.self (in_world a w)) (send_accepts a.world c.args.hook k.node c.in-Some.kind c.arrival.result c.args.packet c.args.stamp joined k.is k.kind_is lt c.arrival.ensures)
+    (c.accept.ensures.stands a k.node S k.is k.kind_is)
+
+pub accept-requires-clause-there : goal.accept-requires-clause-there
+accept-requires-clause-there g c κs within =
+    let k = kind_node c.args.self.now.graph.nodes c.requires.standing.0.world.nodes c.args.hook.peer.node c.in-Some.kind c.requires.standing.1.graph.nodes (sym c.kind.ensures ∙ c.in-Some.is) in
+    (c.requires.standing.0, c.requires.standing.1, (k.node, k.is))

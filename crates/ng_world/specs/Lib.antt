@@ -1,0 +1,4 @@
+pub mod Lent
+pub mod Stands
+pub mod Room
+pub mod Handed

@@ -1,0 +1,55 @@
+// What a seat is handed.
+ghost use Rattle.std.specs.Prelude.{◌≡◌};
+ghost use Rattle.ng_world.specs.Handed.{item_of};
+
+use ng_base::{ItemId, NodeId};
+use ng_machine::Item;
+use ng_node::Node;
+use ng_plan::Plan;
+use std::sync::Arc;
+
+/// What a seat takes: an item, and what it is worked on with.
+#[derive(Drop)]
+pub enum Work<B: Node> {
+    /// A packet, and the plan of its node.
+    Read { item: Item, plan: Arc<Plan> },
+    /// A writer, and the node itself.
+    Write { item: Item, node: B },
+    /// An item that needs no work outside.
+    Inside { item: Item },
+}
+
+/// What an item is worked on with.
+#[derive(Drop)]
+pub enum Tool {
+    /// The plan of its node.
+    Plan(Arc<Plan>),
+    /// The node.
+    Node,
+    /// Nothing.
+    Nothing,
+}
+
+impl<B: Node> Work<B> {
+    /// The number of its item.
+    pub fn id(&self) -> ItemId
+        ensures { result ≡ (item_of self.now).id }
+    {
+        match self {
+            Work::Read { item, plan: _ } => item.id,
+            Work::Write { item, node: _ } => item.id,
+            Work::Inside { item } => item.id,
+        }
+    }
+
+    /// The node that its item is for.
+    pub fn node(&self) -> NodeId
+        ensures { result ≡ (item_of self.now).to }
+    {
+        match self {
+            Work::Read { item, plan: _ } => item.to,
+            Work::Write { item, node: _ } => item.to,
+            Work::Inside { item } => item.to,
+        }
+    }
+}

@@ -1,0 +1,164 @@
+// A seat takes an item, with what it is worked on with.
+ghost use Rattle.std.specs.Prelude.{◌≡◌, ℕ, ◌+◌, ◌<◌, ◌^◌, true, false, is_some, None, Some, IfOk, OnErr, IfSome, IfNone};
+ghost use Rattle.ng_machine.specs.declared.item.Item.{Item as TheItem};
+ghost use Rattle.ng_machine.specs.Body.{is_writer};
+ghost use Rattle.ng_machine.specs.Desk.{Job, job_of, job_at};
+ghost use Rattle.ng_machine.specs.Orderly.{MayTake};
+ghost use Rattle.ng_machine.specs.Run.{RunState};
+ghost use Rattle.ng_machine.specs.World.{NodeRecord, kind_at, node_at, node_in, state_of};
+ghost use Rattle.ng_pending.specs.Holds.{with_taken};
+ghost use Rattle.ng_queue.specs.Queue.{head};
+ghost use Rattle.ng_queue.specs.Queues.{IsLeast, list_at};
+ghost use Rattle.ng_story.specs.Story.{IsNext};
+ghost use Rattle.ng_topology.specs.Topology.{IsAtHome, linked_hook_at};
+ghost use Rattle.ng_machine.specs.Effect.{is_hook_gone, lacks_link, class_of};
+ghost use Rattle.ng_machine.specs.Desk.{is_of_kind};
+ghost use Rattle.ng_world.specs.Handed.{item_of, job_by, job_with};
+ghost use Rattle.ng_world.specs.Lent.{WriterOut};
+ghost use Rattle.ng_world.specs.Stands.{IsStanding, Stands};
+
+use crate::handed::Tool;
+use crate::{State, Work};
+use ng_base::{Kind, LinkId, Name, NoMemory, NodeId};
+use ng_machine::{Body, Door, Item};
+use ng_message::{ANSWER_FLAG, GENERIC_COOKIE, Msg};
+use ng_node::Node;
+use ng_topology::Graph;
+
+// The cookie of the first type's own messages; the others follow in the order of the types.
+const FIRST_COOKIE: u32 = 0x4e47_0001;
+
+fn lacks_link<B: Node>(graph: &Graph<B>, at: NodeId, hook: &Name, link: Option<LinkId>) -> bool
+    ensures { (node : NodeRecord) → node_in graph.now.nodes at ≡ Some node → result ≡ lacks_link node hook.now link }
+{
+    match link {
+        Some(link) => !graph.has_link(at, hook, link),
+        None => true,
+    }
+}
+
+// Whether the item is a packet by a hook that isn't there or has another link.
+fn is_hook_gone<B: Node>(graph: &Graph<B>, at: NodeId, body: &Body) -> bool
+    ensures { (node : NodeRecord) → node_in graph.now.nodes at ≡ Some node → result ≡ is_hook_gone (Some node) body.now }
+{
+    match body {
+        Body::Frame {
+            door: Door::Hook(hook),
+            link,
+            packet: _,
+        } => lacks_link(graph, at, hook, *link),
+        _ => false,
+    }
+}
+
+// Whether a message is one of the cookie of the node's type.
+fn is_of_kind(kind: Kind, msg: &Msg) -> bool
+    ensures { result ≡ is_of_kind (class_of kind msg.now) }
+{
+    if msg.header.flags % 2 == ANSWER_FLAG && kind.number() == Kind::Socket.number() {
+        return false;
+    }
+    msg.header.typecookie != GENERIC_COOKIE
+        && msg.header.typecookie == FIRST_COOKIE + u32::from(kind.number())
+}
+
+// Whether a message is one of the type of the node of that number.
+fn is_own_message<B: Node>(graph: &Graph<B>, at: NodeId, msg: &Msg) -> bool
+    ensures { (node : NodeRecord) → node_in graph.now.nodes at ≡ Some node → result ≡ is_of_kind (class_of (kind_at node) msg.now) }
+{
+    match graph.kind(at) {
+        Some(kind) => is_of_kind(kind, msg),
+        None => false,
+    }
+}
+
+// What the item is worked on with at its node.
+fn tool_for<B: Node>(graph: &Graph<B>, item: &Item) -> Result<Tool, NoMemory>
+    requires { (node : NodeRecord) × (node_in graph.now.nodes item.now.to ≡ Some node) × (item.now.writer ≡ is_writer (kind_at node) item.now.body) }
+    ensures { (node : NodeRecord) → node_in graph.now.nodes item.now.to ≡ Some node
+        → item.now.writer ≡ is_writer (kind_at node) item.now.body
+        → IfOk result (λ t. job_at item.now (Some node) ≡ job_by t item.now node) }
+{
+    if is_hook_gone(graph, item.to, &item.body) {
+        return Ok(Tool::Nothing);
+    }
+    match &item.body {
+        Body::Frame { .. } if item.writer => Ok(Tool::Node),
+        Body::Frame { .. } => Ok(Tool::Plan(graph.plan(item.to)?)),
+        Body::Msg(msg) if item.writer && is_own_message(graph, item.to, msg) => Ok(Tool::Node),
+        Body::Learn { hook, link, .. } if graph.has_link(item.to, hook, *link) => Ok(Tool::Node),
+        Body::Tick(_) => Ok(Tool::Node),
+        _ => Ok(Tool::Nothing),
+    }
+}
+
+impl<B: Node> State<B> {
+    // Lends the node, which has its writer.
+    fn lend(&mut self, at: NodeId) -> B
+        requires { IsAtHome self.old.graph at }
+        ensures stands { (a : RunState) (node : NodeRecord) → Stands self.old a → node_at a.world at ≡ Some node
+            → WriterOut node a.world.pending a.taken at.0 → Stands self.new a }
+        ensures node { (node : NodeRecord) → node_in self.old.graph.nodes at ≡ Some node → B.state result ≡ state_of node }
+    {
+        self.graph.lend(at)
+    }
+
+    // Takes the item that the queue with the least has.
+    fn take_at(&mut self, at: usize, _seat: u32) -> Item
+        requires least { IsLeast self.old.pending.queues.lists at }
+        requires standing { IsStanding self.old }
+        requires few { self.old.pending.out + 1 < 2 ^ 64 }
+        ensures head { head (list_at self.old.pending.queues.lists at) ≡ Some result }
+        ensures next { (a : RunState) → Stands self.old a → IsNext a result × (result.to.0 ≡ at) }
+        ensures after { (a : RunState) → Stands self.old a → Stands self.new (with_taken a result.id.0 _seat) }
+        ensures graph { self.new.graph ≡ self.old.graph }
+    {
+        self.pending.take(at, _seat)
+    }
+
+    // The queue with the least item that may be taken, and what that is worked on with.
+    fn pick(&self) -> Result<Option<(usize, Tool)>, NoMemory>
+        requires { IsStanding self.now }
+        ensures none { IfOk result (λ o. IfNone o ((a : RunState) → Stands self.now a → (item : TheItem) → MayTake a item → ⊥)) }
+        ensures some { IfOk result (λ o. IfSome o (λ x. IsLeast self.now.pending.queues.lists x.0)) }
+        ensures tool { IfOk result (λ o. IfSome o (λ x. (a : RunState) (item : TheItem) (node : NodeRecord)
+            → Stands self.now a → head (list_at self.now.pending.queues.lists x.0) ≡ Some item
+            → node_at a.world item.to ≡ Some node → job_at item (Some node) ≡ job_by x.1 item node)) }
+    {
+        let Some(at) = self.pending.least() else {
+            return Ok(None);
+        };
+        let tool = tool_for(&self.graph, self.pending.head(at))?;
+        Ok(Some((at, tool)))
+    }
+
+    /// Takes the least item that may be taken, where there is one.
+    ///
+    /// # Errors
+    /// `NoMemory` where a plan is shared more often than can be counted; nothing changed.
+    pub fn take(&mut self, seat: u32) -> Result<Option<Work<B>>, NoMemory>
+        requires standing { IsStanding self.old }
+        requires few { self.old.pending.out + 1 < 2 ^ 64 }
+        ensures err { OnErr result (self.new ≡ self.old) }
+        ensures same { IfOk result (λ o. IfNone o (self.new ≡ self.old)) }
+        ensures none { IfOk result (λ o. IfNone o ((a : RunState) → Stands self.old a → (item : TheItem) → MayTake a item → ⊥)) }
+        ensures next { IfOk result (λ o. IfSome o (λ work. (a : RunState) → Stands self.old a → IsNext a (item_of work))) }
+        ensures work { IfOk result (λ o. IfSome o (λ work. (a : RunState) → Stands self.old a
+            → job_with B.state work ≡ job_of a.world (item_of work))) }
+        ensures after { IfOk result (λ o. IfSome o (λ work. (a : RunState) → Stands self.old a
+            → Stands self.new (with_taken a (item_of work).id.0 seat))) }
+    {
+        let Some((at, tool)) = self.pick()? else {
+            return Ok(None);
+        };
+        let item = self.take_at(at, seat);
+        match tool {
+            Tool::Plan(plan) => Ok(Some(Work::Read { item, plan })),
+            Tool::Node => {
+                let node = self.lend(item.to);
+                Ok(Some(Work::Write { item, node }))
+            }
+            Tool::Nothing => Ok(Some(Work::Inside { item })),
+        }
+    }
+}
