@@ -43,7 +43,8 @@ impl Pending {
     pub fn new(alloc: Global, nodes: usize) -> Result<Self, NoMemory>
         requires some { 0 < nodes }
         requires few { nodes < 4611686018427387904 }
-        ensures holds { IfOk result (λ pending. (own : List ℕ) (ports : List (List ℕ)) (stock : List TheKind) → HoldsItems pending (beginning (start_of own ports stock))) }
+        ensures holds { IfOk result (λ pending. (own : List ℕ) (ports : List (List ℕ)) (stock : List TheKind)
+            → HoldsItems pending (beginning (start_of own ports stock))) }
         ensures lists { IfOk result (λ pending. length pending.queues.lists ≡ nodes) }
         ensures numbers { IfOk result (λ pending. HasNumbers (2 ^ 62) pending.tally) }
     {
@@ -84,7 +85,8 @@ impl Pending {
         requires { IsHolding self.now }
         ensures none { IfNone result ((a : RunState) → HoldsItems self.now a → (item : TheItem) → MayTake a item → ⊥) }
         ensures some { IfSome result (λ at. IsLeast self.now.queues.lists at) }
-        ensures next { IfSome result (λ at. (a : RunState) (item : TheItem) → HoldsItems self.now a → head (list_at self.now.queues.lists at) ≡ Some item → IsNext a item) }
+        ensures next { IfSome result (λ at. (a : RunState) (item : TheItem) → HoldsItems self.now a
+            → head (list_at self.now.queues.lists at) ≡ Some item → IsNext a item) }
     {
         let Some(at) = self.queues.least() else {
             return None;
@@ -273,7 +275,8 @@ impl Pending {
 
     /// A packet of this time is fed.
     pub fn pass_time(&mut self, stamp: Stamp)
-        ensures holds { (a : RunState) → HoldsItems self.old a → HoldsItems self.new (in_world a (record a.world { clock = later a.world.clock stamp })) }
+        ensures holds { (a : RunState) → HoldsItems self.old a
+            → HoldsItems self.new (in_world a (record a.world { clock = later a.world.clock stamp })) }
         ensures queues { self.new.queues ≡ self.old.queues }
         ensures numbers { (k : ℕ) → HasNumbers k self.old.tally → HasNumbers k self.new.tally }
     {
