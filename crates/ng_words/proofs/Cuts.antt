@@ -9,7 +9,7 @@ use Rattle.std.proofs.lemmas.Cmp.{nat_list_eq_equiv}
 use Rattle.std.proofs.Math.Seq.{append_snoc}
 use Rattle.ng_words.specs.declared.options.Setting.{Setting as SettingOfWords}
 use Rattle.ng_words.specs.Settings.{settings_of}
-use Rattle.ng_words.specs.Numbers.{is_dashed}
+use Rattle.ng_words.specs.Names.{is_dashed}
 use Rattle.ng_words.specs.Lists.{has_word, are_different, are_undashed}
 use Rattle.ng_words.specs.Options.{Setting, Cut, option_names, with_setting, cut_words, is_setting, if_cut, cut_of}
 

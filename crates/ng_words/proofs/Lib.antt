@@ -1,4 +1,3 @@
-pub mod Digits
 pub mod Mapped
 pub mod PortLists
 pub mod Cuts

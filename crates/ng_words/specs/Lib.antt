@@ -1,4 +1,4 @@
-pub mod Numbers
+pub mod Names
 pub mod Lists
 pub mod Ports
 pub mod Options

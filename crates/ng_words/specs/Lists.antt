@@ -2,7 +2,7 @@
 use Rattle.std.specs.Prelude.{ℕ, Bool, true, not, ◌&&◌, List, [], ◌∷◌}
 use Rattle.std.specs.List.{list_any, list_all}
 use Rattle.std.specs.Str.{bytes_eq}
-use Rattle.ng_words.specs.Numbers.{is_dashed}
+use Rattle.ng_words.specs.Names.{is_dashed}
 
 abbrev pub has_word : List (List ℕ) → List ℕ → Bool
 has_word words word = list_any (λ other. bytes_eq other word) words

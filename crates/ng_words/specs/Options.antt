@@ -3,7 +3,7 @@ use Rattle.std.specs.Prelude.{ℕ, Bool, not, ◌&&◌, if◌then◌else◌, Lis
 use Rattle.std.specs.List.{list_all}
 use Rattle.std.specs.Option.{option_map}
 use Rattle.std.specs.Str.{bytes_eq}
-use Rattle.ng_words.specs.Numbers.{is_dashed}
+use Rattle.ng_words.specs.Names.{is_dashed}
 use Rattle.ng_words.specs.Lists.{has_word, are_different, are_undashed}
 
 pub record Setting : Type 0 where

@@ -4,7 +4,7 @@ use Rattle.std.specs.List.{list_any, position_or_len, before_first, after_first}
 use Rattle.ng_words.specs.declared.port.PortWord.{PortWord}
 use Rattle.ng_words.specs.declared.port.PortForm.{PortForm}
 use Rattle.ng_words.specs.declared.port.PortForm.TheVariants.{InAndOut, InAlone}
-use Rattle.ng_words.specs.Numbers.{is_node_name}
+use Rattle.ng_words.specs.Names.{is_node_name}
 
 -- what stands before the first such byte of a word, and what stands behind it; None where there is no such byte
 abbrev pub split_at : ℕ → List ℕ → Option (List ℕ × List ℕ)

@@ -3,7 +3,8 @@ use Rattle.std.specs.Prelude.{ℕ, Bool, ◌&&◌, if◌then◌else◌, List, []
 use Rattle.ng_words.specs.declared.port.PortWord.{PortWord}
 use Rattle.ng_words.specs.declared.port.PortForm.TheVariants.{InAlone}
 use Rattle.ng_words.specs.declared.words.ReplayWords.{ReplayWords}
-use Rattle.ng_words.specs.Numbers.{number_from, node_name, file_name}
+use Rattle.ng_decimal.specs.Decimal.{number_from}
+use Rattle.ng_words.specs.Names.{node_name, file_name}
 use Rattle.ng_words.specs.Lists.{are_undashed}
 use Rattle.ng_words.specs.Ports.{ports_of}
 use Rattle.ng_words.specs.Together.{are_ports, are_files, ins}

@@ -6,7 +6,8 @@ use Rattle.ng_words.specs.declared.port.PortForm.TheVariants.{InAndOut}
 use Rattle.ng_words.specs.declared.words.Source.{Source}
 use Rattle.ng_words.specs.declared.words.Source.TheVariants.{FromFiles, Made}
 use Rattle.ng_words.specs.declared.words.Words.{Words}
-use Rattle.ng_words.specs.Numbers.{number_from, node_name, file_name}
+use Rattle.ng_decimal.specs.Decimal.{number_from}
+use Rattle.ng_words.specs.Names.{node_name, file_name}
 use Rattle.ng_words.specs.Ports.{ports_of}
 use Rattle.ng_words.specs.Options.{Cut, cut_of, value_of}
 use Rattle.ng_words.specs.Together.{are_ports, are_files, ins, outs}

@@ -4,12 +4,13 @@ ghost use Rattle.ng_words.specs.Forecast.{forecast_words_of, forecast_parts};
 
 use crate::ForecastWords;
 use crate::lists::are_undashed;
-use crate::numbers::{read_file_name, read_node_name, read_number};
+use crate::names::{read_file_name, read_node_name};
 use crate::port::PortForm;
 use crate::ports::read_ports;
 use crate::replay::first_word;
 use crate::together::are_ports;
 use ng_base::NoMemory;
+use ng_decimal::read_decimal;
 use std::alloc::Global;
 
 const MAX_HOPS: u64 = 64;
@@ -31,7 +32,7 @@ fn read_said(alloc: Global, words: &[String]) -> Result<Option<ForecastWords>, N
     let Some((hops, own_name, script, ports)) = split_words(words) else {
         return Ok(None);
     };
-    let Some(hops) = read_number(hops, 1, MAX_HOPS) else {
+    let Some(hops) = read_decimal(hops.as_bytes(), 1, MAX_HOPS) else {
         return Ok(None);
     };
     let Some(own_name) = read_node_name(own_name.as_bytes()) else {

@@ -5,7 +5,7 @@
 
 mod forecast;
 mod lists;
-mod numbers;
+mod names;
 mod options;
 mod port;
 mod ports;

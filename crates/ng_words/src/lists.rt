@@ -2,10 +2,10 @@
 ghost use Rattle.std.specs.Prelude.{◌≡◌, not, map, string_bytes};
 ghost use Rattle.std.specs.List.{list_all, list_any};
 ghost use Rattle.std.specs.Str.{bytes_eq};
-ghost use Rattle.ng_words.specs.Numbers.{is_dashed};
+ghost use Rattle.ng_words.specs.Names.{is_dashed};
 ghost use Rattle.ng_words.specs.Lists.{has_word as has_the_word, are_different as are_all_different, are_apart as are_all_apart, are_undashed as are_all_undashed};
 
-use crate::numbers::begins_with_dash;
+use crate::names::begins_with_dash;
 
 fn is_among(words: &[&str], word: &str) -> bool
     ensures { result ≡ list_any (λ other. bytes_eq other.now word.now) words.now }

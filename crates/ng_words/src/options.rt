@@ -8,7 +8,7 @@ ghost use Rattle.ng_words.specs.Options.{Setting as OneSetting, is_setting as is
 ghost use Rattle.ng_words.specs.Settings.{settings_of};
 
 use crate::lists::are_undashed;
-use crate::numbers::begins_with_dash;
+use crate::names::begins_with_dash;
 use ng_base::NoMemory;
 use std::alloc::Global;
 

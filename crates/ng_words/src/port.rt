@@ -1,7 +1,7 @@
 // Words that name a port and its files.
 ghost use Rattle.std.specs.Prelude.{◌≡◌, ◌==◌, List, ℕ, IfOk, MatchOption, Some, None, map, string_bytes};
 ghost use Rattle.std.specs.List.{list_any};
-ghost use Rattle.ng_words.specs.Numbers.{node_name};
+ghost use Rattle.ng_words.specs.Names.{node_name};
 
 use ng_base::{Name, Sequence};
 use std::marker::Model;

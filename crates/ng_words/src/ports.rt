@@ -3,7 +3,7 @@ ghost use Rattle.std.specs.Prelude.{◌≡◌, ◌==◌, IfOk, MatchOption, Some
 ghost use Rattle.std.specs.List.{list_any};
 ghost use Rattle.ng_words.specs.Ports.{split_at, equals, comma, files_of, port_of, ports_of};
 
-use crate::numbers::read_node_name;
+use crate::names::read_node_name;
 use crate::{FileName, PortForm, PortWord};
 use ng_base::{NoMemory, Sequence};
 use std::alloc::Global;

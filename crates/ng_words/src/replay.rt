@@ -4,11 +4,12 @@ ghost use Rattle.ng_words.specs.Replay.{replay_words_of, replay_parts, are_repla
 
 use crate::ReplayWords;
 use crate::lists::{are_undashed, has_word};
-use crate::numbers::{read_file_name, read_node_name, read_number};
+use crate::names::{read_file_name, read_node_name};
 use crate::port::PortForm;
 use crate::ports::read_ports;
 use crate::together::{add_ins, are_ports};
 use ng_base::NoMemory;
+use ng_decimal::read_decimal;
 use std::alloc::Global;
 
 const MAX_WORKERS: u64 = 16;
@@ -59,10 +60,10 @@ fn read_said(alloc: Global, words: &[String]) -> Result<Option<ReplayWords>, NoM
     let Some((budget, workers, own_name, journal, script, ports)) = split_words(words) else {
         return Ok(None);
     };
-    let Some(budget) = read_number(budget, 1, MAX_BUDGET) else {
+    let Some(budget) = read_decimal(budget.as_bytes(), 1, MAX_BUDGET) else {
         return Ok(None);
     };
-    let Some(workers) = read_number(workers, 0, MAX_WORKERS) else {
+    let Some(workers) = read_decimal(workers.as_bytes(), 0, MAX_WORKERS) else {
         return Ok(None);
     };
     let Some(own_name) = read_node_name(own_name.as_bytes()) else {

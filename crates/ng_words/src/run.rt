@@ -1,20 +1,22 @@
 // The words of a run.
 ghost use Rattle.std.specs.Prelude.{◌≡◌, ◌++◌, ◌∷◌, IfOk, Some, None, codes, map, string_bytes};
 ghost use Rattle.std.specs.Option.{option_copied};
-ghost use Rattle.ng_words.specs.Numbers.{number_from, node_name};
+ghost use Rattle.ng_decimal.specs.Decimal.{number_from};
+ghost use Rattle.ng_words.specs.Names.{node_name};
 ghost use Rattle.ng_words.specs.Settings.{settings_of};
 ghost use Rattle.ng_words.specs.Run.{unless_given, journal_name, from_files, source_by, said as what_is_said, made_ports, listed, are_words as are_the_words, words_of};
 ghost use Rattle.ng_words.specs.Lists.{has_word as has_the_word};
 ghost use Rattle.ng_words.specs.Together.{are_files, ins, outs};
 
 use crate::lists::{are_apart, are_different};
-use crate::numbers::{read_file_name, read_node_name, read_number};
+use crate::names::{read_file_name, read_node_name};
 use crate::options::{Setting, cut_words, value_of};
 use crate::port::PortForm;
 use crate::ports::read_ports;
 use crate::together::{add_ins, add_outs, are_ports};
 use crate::{FileName, PortWord, Source, Words};
 use ng_base::{Name, NoMemory};
+use ng_decimal::read_decimal;
 use std::alloc::Global;
 
 const MAX_WORKERS: u64 = 16;
@@ -30,7 +32,7 @@ fn read_workers(value: Option<&str>) -> Option<u32>
 {
     match value {
         None => Some(0),
-        Some(word) => match read_number(word, 0, MAX_WORKERS) {
+        Some(word) => match read_decimal(word.as_bytes(), 0, MAX_WORKERS) {
             Some(workers) => Some(workers as u32),
             None => None,
         },
@@ -42,7 +44,7 @@ fn read_budget(value: Option<&str>) -> Option<u64>
 {
     match value {
         None => Some(DEFAULT_BUDGET),
-        Some(word) => read_number(word, 1, MAX_BUDGET),
+        Some(word) => read_decimal(word.as_bytes(), 1, MAX_BUDGET),
     }
 }
 
@@ -92,7 +94,7 @@ fn read_source(
     let Some(packets) = packets else {
         return read_files(alloc, words);
     };
-    let Some(packets) = read_number(packets, 1, MAX_PACKETS) else {
+    let Some(packets) = read_decimal(packets.as_bytes(), 1, MAX_PACKETS) else {
         return Ok(None);
     };
     if words.is_empty() {

@@ -1,5 +1,5 @@
 use Rattle.std.proofs.Common.{sym, ◌∙◌, not, string_bytes}
-use Rattle.ng_words.specs.Numbers.{is_dashed}
+use Rattle.ng_words.specs.Names.{is_dashed}
 use Rattle.ng_words.proofs.Mapped.{all_mapped}
 use Rattle.ng_words.proofs.lists.are_undashed.Goals as goal
 

@@ -1,6 +1,6 @@
 -- The option that stands next is refused, or is cut off.
 use Rattle.std.proofs.Common.{◌≡◌, List, [], ◌∷◌, ◌++◌, map, string_bytes, ap, sym, subst, ◌∙◌}
-use Rattle.ng_words.specs.Numbers.{is_dashed}
+use Rattle.ng_words.specs.Names.{is_dashed}
 use Rattle.ng_words.specs.Lists.{has_word}
 use Rattle.ng_words.specs.Options.{Setting, option_names, cut_words}
 use Rattle.ng_words.specs.Settings.{settings_of}
