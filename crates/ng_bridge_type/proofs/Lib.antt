@@ -1,0 +1,3 @@
+pub mod Addresses
+pub mod LinkLists
+pub mod Sound
