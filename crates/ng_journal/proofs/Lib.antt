@@ -1,0 +1,4 @@
+pub mod Splits
+pub mod Events
+pub mod Written
+pub mod ReadBack

@@ -1,0 +1,15 @@
+//! A journal as a file: a head, and a line for each event.
+#![tactic(auto)]
+
+mod fault;
+mod laws;
+mod reading;
+mod split;
+#[cfg(test)]
+mod tests;
+mod writing;
+
+pub use fault::JournalFault;
+pub use laws::{read_was_written, written_is_read};
+pub use reading::read_journal;
+pub use writing::put_journal;
