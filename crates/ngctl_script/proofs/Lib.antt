@@ -1,0 +1,9 @@
+pub mod Splits
+pub mod Ends
+pub mod WordParts
+pub mod Digits
+pub mod Prefixes
+pub mod Written
+pub mod Named
+pub mod Orderly
+pub mod Steps

@@ -1,0 +1,26 @@
+//! Scripts of the commands of ngctl(8), with marks that say when a command is fed.
+#![tactic(auto)]
+
+mod bytes;
+mod fault;
+mod forms;
+mod laws;
+mod lines;
+mod marks;
+mod read;
+mod reading;
+mod refusal;
+mod script;
+#[cfg(test)]
+mod tests;
+mod verb;
+mod when;
+mod words;
+
+pub use fault::ScriptFault;
+pub use laws::commands_are_in_order;
+pub use read::read_script;
+pub use refusal::Refusal;
+pub use script::Script;
+pub use verb::Verb;
+pub use when::When;

@@ -1,0 +1,205 @@
+// What the line of each command asks for.
+use super::asked;
+use crate::{Refusal, Verb};
+use std::test::Fail;
+
+#[test]
+fn hooks_are_made_and_taken_away(rt: HostRuntime) -> Result<(), Fail> {
+    for (line, want) in [
+        ("connect br0: a b", "|connect|~|br0:|a|b"),
+        ("connect . a b", "|connect|~|.|a|b"),
+        ("connect . br0:link0 a b", "|connect|.|br0:link0|a|b"),
+        ("connect [1f]: x.y a b", "|connect|[1f]:|x.y|a|b"),
+        ("mkpeer hub a b", "|mkpeer|~|hub|a|b"),
+        ("mkpeer . hub a b", "|mkpeer|.|hub|a|b"),
+        (
+            "mkpeer br0:link0.x no_type [a] b",
+            "|mkpeer|br0:link0.x|no_type|[a]|b",
+        ),
+        ("rmhook a", "|rmhook|~|a"),
+        ("rmhook br0: a", "|rmhook|br0:|a"),
+    ] {
+        let found = asked(rt.alloc(), line.as_bytes())?;
+        assert_eq!(rt; found.as_slice(), want.as_bytes(), "{line:?}");
+    }
+    Ok(())
+}
+
+#[test]
+fn nodes_are_told(rt: HostRuntime) -> Result<(), Fail> {
+    for (line, want) in [
+        ("config .", "|config|.|"),
+        ("config .  a  b ", "|config|.|a  b"),
+        ("config br0: # x", "|config|br0:|# x"),
+        ("msg br0: getstats", "|msg|br0:|getstats|"),
+        ("msg br0: getstats 1", "|msg|br0:|getstats|1"),
+        (
+            "msg . x \t{ a=1  b=\"c d\" }\t",
+            "|msg|.|x|{ a=1  b=\"c d\" }",
+        ),
+        ("name . sw0", "|name|.|sw0"),
+        ("name br0:link0 [x]", "|name|br0:link0|[x]"),
+        ("shutdown br0:", "|shutdown|br0:"),
+        ("shutdown a.b.c", "|shutdown|a.b.c"),
+        ("status .", "|status|."),
+        ("status [0000001f]:", "|status|[0000001f]:"),
+    ] {
+        let found = asked(rt.alloc(), line.as_bytes())?;
+        assert_eq!(rt; found.as_slice(), want.as_bytes(), "{line:?}");
+    }
+    Ok(())
+}
+
+#[test]
+fn questions_are_asked(rt: HostRuntime) -> Result<(), Fail> {
+    for (line, want) in [
+        ("help", "|help|~"),
+        ("help types", "|help|types"),
+        ("help w", "|help|w"),
+        ("help s", "|bad|ambiguous command"),
+        ("help zz", "|bad|unknown command"),
+        ("list", "|list|no"),
+        ("list -n", "|list|yes"),
+        ("show .", "|show|no|."),
+        ("show -n .", "|show|yes|."),
+        ("show -n", "|show|no|-n"),
+        ("types", "|types"),
+        ("quit", "|quit"),
+        ("q", "|quit"),
+    ] {
+        let found = asked(rt.alloc(), line.as_bytes())?;
+        assert_eq!(rt; found.as_slice(), want.as_bytes(), "{line:?}");
+    }
+    Ok(())
+}
+
+#[test]
+fn words_have_the_form_of_the_usage(rt: HostRuntime) -> Result<(), Fail> {
+    for (line, usage) in [
+        ("config", "config path [args]"),
+        ("connect", "connect [path] relpath hook peerhook"),
+        ("connect a b", "connect [path] relpath hook peerhook"),
+        ("connect a b c d e", "connect [path] relpath hook peerhook"),
+        ("help list -n", "help [command]"),
+        ("list -N", "list [-n]"),
+        ("list -n -n", "list [-n]"),
+        ("mkpeer x", "mkpeer [path] type hook peerhook"),
+        ("mkpeer . hub a b c", "mkpeer [path] type hook peerhook"),
+        ("msg", "msg path command [args]"),
+        ("msg .", "msg path command [args]"),
+        ("name .", "name path name"),
+        ("name . a b", "name path name"),
+        ("quit x", "quit"),
+        ("rmhook", "rmhook [path] hook"),
+        ("rmhook . a b", "rmhook [path] hook"),
+        ("show", "show [-n] path"),
+        ("show . .", "show [-n] path"),
+        ("show -n . .", "show [-n] path"),
+        ("shutdown", "shutdown path"),
+        ("shutdown a: b:", "shutdown path"),
+        ("status", "status path"),
+        ("types x", "types"),
+        ("write", "write hook byte .."),
+        ("write a", "write hook byte .."),
+    ] {
+        let found = asked(rt.alloc(), line.as_bytes())?;
+        let want = format!(in rt.alloc(); "|bad|usage: {usage}")?;
+        assert_eq!(rt; found.as_slice(), want.as_str().as_bytes(), "{line:?}");
+    }
+    Ok(())
+}
+
+#[test]
+fn refusals_have_an_order(rt: HostRuntime) -> Result<(), Fail> {
+    for (line, why) in [
+        ("connect a:b:c x x.y", "bad name"),
+        ("connect a:b:c x y", "bad path"),
+        ("connect .. . x y", "bad path"),
+        ("connect . a..b x y", "bad path"),
+        ("mkpeer a:b:c h.b x y", "bad name"),
+        (
+            "mkpeer a:b:c hub x abcdefghijklmnopqrstuvwxyz012345",
+            "bad name",
+        ),
+        ("mkpeer a:b:c hub x y", "bad path"),
+        ("mkpeer : hub x:y z", "bad name"),
+        ("msg : x", "bad path"),
+        ("config [g]: x", "bad path"),
+        ("name : a:", "bad name"),
+        ("name : a", "bad path"),
+        ("rmhook a.b", "bad name"),
+        ("rmhook : a.b", "bad name"),
+        ("rmhook : a", "bad path"),
+        ("show -n :", "bad path"),
+        ("shutdown a:b:", "bad path"),
+        ("status [123456789]:", "bad path"),
+        ("write a.b 300", "bad name"),
+        ("write a 1 2 256", "bad byte"),
+        ("write a -1", "bad byte"),
+        ("write a 08", "bad byte"),
+        ("write a 0x", "bad byte"),
+        ("write a 0x00000000000000000", "bad byte"),
+        ("write a 1x", "bad byte"),
+        ("write a 18446744073709551617", "bad byte"),
+        ("write \u{e9} 1", "bad name"),
+    ] {
+        let found = asked(rt.alloc(), line.as_bytes())?;
+        let want = format!(in rt.alloc(); "|bad|{why}")?;
+        assert_eq!(rt; found.as_slice(), want.as_str().as_bytes(), "{line:?}");
+    }
+    Ok(())
+}
+
+#[test]
+fn bytes_are_integers(rt: HostRuntime) -> Result<(), Fail> {
+    for (line, bytes) in [
+        ("write a 0", [0].as_slice()),
+        ("write a 1 2  3\t255", [1, 2, 3, 255].as_slice()),
+        (
+            "write a 0x0 0xfF 0xFF 0x00000000000000a0",
+            [0, 255, 255, 160].as_slice(),
+        ),
+        (
+            "write a 00 0017 010 0377 00000000000000000001",
+            [0, 15, 8, 255, 1].as_slice(),
+        ),
+    ] {
+        let found = asked(rt.alloc(), line.as_bytes())?;
+        let written = found.as_slice().strip_prefix(b"|write|a|".as_slice());
+        assert_eq!(rt; written, Some(bytes), "{line:?}");
+    }
+    Ok(())
+}
+
+#[test]
+fn a_command_is_named_by_a_prefix_of_its_own(rt: HostRuntime) {
+    for (word, want) in [
+        ("config", Ok(Verb::Config)),
+        ("conf", Ok(Verb::Config)),
+        ("conn", Ok(Verb::Connect)),
+        ("h", Ok(Verb::Help)),
+        ("l", Ok(Verb::List)),
+        ("mk", Ok(Verb::Mkpeer)),
+        ("ms", Ok(Verb::Msg)),
+        ("n", Ok(Verb::Name)),
+        ("q", Ok(Verb::Quit)),
+        ("r", Ok(Verb::Rmhook)),
+        ("sho", Ok(Verb::Show)),
+        ("shu", Ok(Verb::Shutdown)),
+        ("st", Ok(Verb::Status)),
+        ("t", Ok(Verb::Types)),
+        ("write", Ok(Verb::Write)),
+        ("c", Err(Refusal::Ambiguous)),
+        ("con", Err(Refusal::Ambiguous)),
+        ("m", Err(Refusal::Ambiguous)),
+        ("s", Err(Refusal::Ambiguous)),
+        ("sh", Err(Refusal::Ambiguous)),
+        ("", Err(Refusal::Ambiguous)),
+        ("zz", Err(Refusal::Unknown)),
+        ("List", Err(Refusal::Unknown)),
+        ("types1", Err(Refusal::Unknown)),
+        ("showshow", Err(Refusal::Unknown)),
+    ] {
+        assert_eq!(rt; Verb::named(word.as_bytes()), want, "{word:?}");
+    }
+}
