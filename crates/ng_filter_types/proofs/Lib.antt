@@ -1,0 +1,6 @@
+mod AddressLists
+mod Counting
+mod FilterLists
+mod Found
+mod Hooks
+mod Refusals

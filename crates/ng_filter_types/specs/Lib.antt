@@ -1,0 +1,4 @@
+pub mod Addresses
+pub mod Counts
+pub mod Filters
+pub mod State

@@ -1,0 +1,333 @@
+// An etf and a macset on packets and on messages.
+ghost use Rattle.std.specs.Prelude.{◌≡◌, ◌∷◌, [], codes, false, true, IfOk, OnOk};
+ghost use Rattle.ng_base.specs.Names.{has_name};
+ghost use Rattle.ng_machine.specs.Names.{all_hook, downstream, known_hook, other_hook};
+ghost use Rattle.ng_message.specs.Numbers.{is_reader_number};
+
+use crate::{EtfNode, MacsetNode, blank_etf, blank_macset};
+use ng_base::{Bytes, Errno, Name, NodeId, Packet};
+use ng_machine::{Body, Door, Outcome};
+use ng_message::{Header, Msg, VERSION, put_name, put_u16};
+use ng_node::Node;
+use ng_plan::{Plan, all_hook, downstream, eval, known_hook, other_hook};
+use std::alloc::Global;
+use std::test::Fail;
+
+/// The cookie of an etf's messages.
+const ETF: u32 = 0x4e47_000d;
+
+/// The cookie of a macset's messages.
+const MACSET: u32 = 0x4e47_000e;
+
+/// The number of setfilter, and of add.
+const SET: u32 = 1;
+
+/// The number of del.
+const DELETE: u32 = 2;
+
+/// The number of getstatus.
+const GET_STATUS: u32 = 0x2000_0002;
+
+/// The number of getstats.
+const GET_STATS: u32 = 0x2000_0004;
+
+/// The number of gettable of both types.
+const GET_TABLE: u32 = 0x3000_0003;
+
+/// A frame of IP, of 15 bytes.
+const IP: &[u8; 15] = &[1, 2, 3, 4, 5, 6, 7, 8, 9, 10, 11, 12, 8, 0, 9];
+
+/// A frame of ARP.
+const ARP: &[u8; 14] = &[1, 2, 3, 4, 5, 6, 7, 8, 9, 10, 11, 12, 8, 6];
+
+/// A byte less than a frame.
+const RUNT: &[u8; 13] = &[1, 2, 3, 4, 5, 6, 7, 8, 9, 10, 11, 12, 8];
+
+/// A frame from 02:00:00:00:00:0a.
+const FROM_10: &[u8; 14] = &[1, 2, 3, 4, 5, 6, 2, 0, 0, 0, 0, 10, 8, 0];
+
+/// A frame from 02:00:00:00:00:0b.
+const FROM_11: &[u8; 14] = &[1, 2, 3, 4, 5, 6, 2, 0, 0, 0, 0, 11, 8, 0];
+
+// A message of that cookie, number and arguments.
+fn message(alloc: Global, cookie: u32, number: u32, args: &[u8]) -> Result<Msg, Fail>
+    ensures cookie { IfOk result (λ msg. msg.header.typecookie ≡ cookie) }
+    ensures number { IfOk result (λ msg. msg.header.cmd ≡ number) }
+{
+    Ok(Msg {
+        from: NodeId(1),
+        header: Header {
+            version: VERSION,
+            spare: 0,
+            spare2: 0,
+            arglen: 0,
+            cmd: number,
+            flags: 0,
+            token: 1,
+            typecookie: cookie,
+            cmdstr: [0; 32],
+        },
+        args: Bytes(Vec::from_slice(alloc, args)?),
+    })
+}
+
+// What comes of a message to an etf that writes.
+fn tell_etf(node: &mut EtfNode, alloc: Global, number: u32, args: &[u8]) -> Result<Outcome, Fail>
+    requires { is_reader_number number ≡ false }
+    ensures { OnOk result (node.new.hooks ≡ node.old.hooks) }
+{
+    Ok(node.write(alloc, &Body::Msg(message(alloc, ETF, number, args)?))?)
+}
+
+// What comes of a message to a macset that writes.
+fn tell_macset(
+    node: &mut MacsetNode,
+    alloc: Global,
+    number: u32,
+    args: &[u8],
+) -> Result<Outcome, Fail>
+    requires { is_reader_number number ≡ false }
+    ensures { OnOk result (node.new.hooks ≡ node.old.hooks) }
+{
+    Ok(node.write(alloc, &Body::Msg(message(alloc, MACSET, number, args)?))?)
+}
+
+// What becomes of bytes that come by a hook, by a plan.
+fn pass(alloc: Global, plan: &Plan, hook: &Name, bytes: &[u8]) -> Result<Outcome, Fail> {
+    let packet = Packet::new(alloc, bytes)?;
+    Ok(eval(alloc, plan, &Door::Hook(*hook), &packet)?)
+}
+
+// The hook that these bytes go out of, if nothing else goes out.
+fn way_out(outcome: &Outcome, bytes: &[u8]) -> Option<Name> {
+    match outcome.sends.as_slice() {
+        [(hook, packet)] if packet.bytes() == bytes => Some(*hook),
+        _ => None,
+    }
+}
+
+// The hook that bytes by a hook of an etf go out of, as `write` has it.
+fn send_etf(
+    node: &mut EtfNode,
+    alloc: Global,
+    hook: &Name,
+    bytes: &[u8],
+) -> Result<Option<Name>, Fail>
+    requires { has_name (node.old).hooks hook.now ≡ true }
+{
+    let frame = Body::Frame {
+        door: Door::Hook(*hook),
+        link: None,
+        packet: Packet::new(alloc, bytes)?,
+    };
+    Ok(way_out(&node.write(alloc, &frame)?, bytes))
+}
+
+// The hook that bytes by a hook of a macset go out of, as `write` has it.
+fn send_macset(
+    node: &mut MacsetNode,
+    alloc: Global,
+    hook: &Name,
+    bytes: &[u8],
+) -> Result<Option<Name>, Fail>
+    requires { has_name (node.old).hooks hook.now ≡ true }
+{
+    let frame = Body::Frame {
+        door: Door::Hook(*hook),
+        link: None,
+        packet: Packet::new(alloc, bytes)?,
+    };
+    Ok(way_out(&node.write(alloc, &frame)?, bytes))
+}
+
+// Whether these bytes are what is answered.
+fn has_answer(outcome: &Outcome, bytes: &[u8]) -> bool {
+    match &outcome.answer {
+        Some(answer) => answer.0.as_slice() == bytes,
+        None => false,
+    }
+}
+
+// The arguments of setfilter.
+fn filter(alloc: Global, hook: &[u8], ethertype: u16) -> Result<Vec<u8>, Fail> {
+    let mut args = Vec::new(alloc);
+    put_name(&mut args, Some(&Name::read(hook)?))?;
+    put_u16(&mut args, ethertype)?;
+    Ok(args)
+}
+
+// An etf with `downstream` and `ip`, without filters.
+fn etf_of_two(alloc: Global) -> Result<EtfNode, Fail>
+    ensures { IfOk result (λ node. node.hooks ≡ downstream ∷ codes "ip" ∷ []) }
+{
+    let mut node = blank_etf(alloc)?;
+    node.newhook(alloc, &downstream())?;
+    node.newhook(alloc, &Name::read(b"ip")?)?;
+    Ok(node)
+}
+
+// The same with the filter of IP.
+fn etf_of_ip(alloc: Global) -> Result<EtfNode, Fail>
+    ensures { IfOk result (λ node. node.hooks ≡ downstream ∷ codes "ip" ∷ []) }
+{
+    let mut node = etf_of_two(alloc)?;
+    tell_etf(&mut node, alloc, SET, &filter(alloc, b"ip", 0x800)?)?;
+    Ok(node)
+}
+
+// A macset with `all`, `known` and `other`, without addresses.
+fn macset_of_three(alloc: Global) -> Result<MacsetNode, Fail>
+    ensures { IfOk result (λ node. node.hooks ≡ all_hook ∷ known_hook ∷ other_hook ∷ []) }
+{
+    let mut node = blank_macset(alloc)?;
+    node.newhook(alloc, &all_hook())?;
+    node.newhook(alloc, &known_hook())?;
+    node.newhook(alloc, &other_hook())?;
+    Ok(node)
+}
+
+// The same with the address 02:00:00:00:00:0a.
+fn macset_of_10(alloc: Global) -> Result<MacsetNode, Fail>
+    ensures { IfOk result (λ node. node.hooks ≡ all_hook ∷ known_hook ∷ other_hook ∷ []) }
+{
+    let mut node = macset_of_three(alloc)?;
+    tell_macset(&mut node, alloc, SET, &[2, 0, 0, 0, 0, 10])?;
+    Ok(node)
+}
+
+// What a plan makes of frames by `downstream` and by the filter's hook, and the counters after them.
+#[test]
+fn frames_go_by_their_filter(rt: HostRuntime) -> Result<(), Fail> {
+    let alloc = rt.alloc();
+    let ip = Name::read(b"ip")?;
+    let mut node = etf_of_ip(alloc)?;
+    let Some(plan) = node.plan(alloc)? else {
+        return Err(Errno::NXIO)?;
+    };
+    let rows: [(Name, &[u8], Option<Name>, Errno); 6] = [
+        (downstream(), IP, Some(ip), Errno::NONE),
+        (ip, ARP, None, Errno::PERM),
+        (ip, IP, Some(downstream()), Errno::NONE),
+        (downstream(), ARP, None, Errno::NONE),
+        (downstream(), RUNT, None, Errno::INVAL),
+        (ip, RUNT, None, Errno::INVAL),
+    ];
+    for (hook, frame, out, errno) in rows {
+        let outcome = pass(alloc, &plan, &hook, frame)?;
+        assert_eq!(rt; way_out(&outcome, frame), out);
+        assert_eq!(rt; outcome.errno, errno);
+        node.absorb(&outcome.counts);
+    }
+    let told = tell_etf(&mut node, alloc, GET_STATUS, &[])?;
+    let status = b"\x03\0\0\0\0\0\0\0\x01\0\0\0\0\0\0\0";
+    assert!(rt; has_answer(&told, status));
+    Ok(())
+}
+
+#[test]
+fn a_frame_of_a_filter_goes_out_of_its_hook(rt: HostRuntime) -> Result<(), Fail> {
+    let alloc = rt.alloc();
+    let mut node = etf_of_ip(alloc)?;
+    let out = send_etf(&mut node, alloc, &downstream(), IP)?;
+    assert_eq!(rt; out, Some(Name::read(b"ip")?));
+    Ok(())
+}
+
+// The refusals of setfilter but that of a full table.
+#[test]
+fn filters_are_refused(rt: HostRuntime) -> Result<(), Fail> {
+    let alloc = rt.alloc();
+    let mut node = etf_of_two(alloc)?;
+    let rows: [(&[u8], u16, Errno); 7] = [
+        (b"ip", 0x86dd, Errno::NONE),
+        (b"ip", 1_536, Errno::NONE),
+        (b"ip", 1_535, Errno::INVAL),
+        (b"downstream", 0x800, Errno::INVAL),
+        (b"nomatch", 0x800, Errno::INVAL),
+        (b"absent", 0x800, Errno::NOENT),
+        (b"ip", 0x86dd, Errno::EXIST),
+    ];
+    for (hook, ethertype, errno) in rows {
+        let args = filter(alloc, hook, ethertype)?;
+        assert_eq!(rt; tell_etf(&mut node, alloc, SET, &args)?.errno, errno);
+    }
+    Ok(())
+}
+
+// The filters that an etf tells.
+#[test]
+fn filters_are_told(rt: HostRuntime) -> Result<(), Fail> {
+    let alloc = rt.alloc();
+    let node = etf_of_ip(alloc)?;
+    let told = node.answer(alloc, &message(alloc, ETF, GET_TABLE, &[])?)?;
+    let table = b"\x01\0\0\0ip\0\0\0\0\0\0\0\0\0\0\0\0\0\0\0\0\0\0\0\0\0\0\0\0\0\0\0\0\0\0\x00\x08";
+    assert!(rt; has_answer(&told, table));
+    Ok(())
+}
+
+// What a plan makes of frames by each hook, and the counters after them.
+#[test]
+fn frames_go_by_their_source(rt: HostRuntime) -> Result<(), Fail> {
+    let alloc = rt.alloc();
+    let mut node = macset_of_10(alloc)?;
+    let Some(plan) = node.plan(alloc)? else {
+        return Err(Errno::NXIO)?;
+    };
+    let rows: [(Name, &[u8], Option<Name>, Errno); 6] = [
+        (all_hook(), FROM_10, Some(known_hook()), Errno::NONE),
+        (all_hook(), FROM_11, Some(other_hook()), Errno::NONE),
+        (all_hook(), FROM_10, Some(known_hook()), Errno::NONE),
+        (known_hook(), FROM_11, Some(all_hook()), Errno::NONE),
+        (other_hook(), RUNT, Some(all_hook()), Errno::NONE),
+        (all_hook(), RUNT, None, Errno::INVAL),
+    ];
+    for (hook, frame, out, errno) in rows {
+        let outcome = pass(alloc, &plan, &hook, frame)?;
+        assert_eq!(rt; way_out(&outcome, frame), out);
+        assert_eq!(rt; outcome.errno, errno);
+        node.absorb(&outcome.counts);
+    }
+    let told = tell_macset(&mut node, alloc, GET_STATS, &[])?;
+    let stats = b"\x02\0\0\0\0\0\0\0\x01\0\0\0\0\0\0\0";
+    assert!(rt; has_answer(&told, stats));
+    Ok(())
+}
+
+#[test]
+fn a_known_frame_goes_out_of_known(rt: HostRuntime) -> Result<(), Fail> {
+    let alloc = rt.alloc();
+    let mut node = macset_of_10(alloc)?;
+    let out = send_macset(&mut node, alloc, &all_hook(), FROM_10)?;
+    assert_eq!(rt; out, Some(known_hook()));
+    Ok(())
+}
+
+// The refusals of add and del but that of a full set, and the addresses after them, in order.
+#[test]
+fn addresses_are_told(rt: HostRuntime) -> Result<(), Fail> {
+    let alloc = rt.alloc();
+    let mut node = blank_macset(alloc)?;
+    let added: [(&[u8], Errno); 6] = [
+        (&[2, 0, 0, 0, 0, 11], Errno::NONE),
+        (&[2, 0, 0, 0, 0, 10], Errno::NONE),
+        (&[0, 255, 0, 0, 0, 0], Errno::NONE),
+        (&[3, 0, 0, 0, 0, 12], Errno::INVAL),
+        (&[2, 0, 0, 0, 0], Errno::INVAL),
+        (&[2, 0, 0, 0, 0, 10], Errno::EXIST),
+    ];
+    for (args, errno) in added {
+        assert_eq!(rt; tell_macset(&mut node, alloc, SET, args)?.errno, errno);
+    }
+    let deleted: [(&[u8], Errno); 3] = [
+        (&[2, 0, 0, 0, 0, 10], Errno::NONE),
+        (&[2, 0, 0, 0, 0, 10], Errno::NOENT),
+        (&[2, 0, 0, 0, 0, 11, 0], Errno::INVAL),
+    ];
+    for (args, errno) in deleted {
+        assert_eq!(rt; tell_macset(&mut node, alloc, DELETE, args)?.errno, errno);
+    }
+    let told = node.answer(alloc, &message(alloc, MACSET, GET_TABLE, &[])?)?;
+    let table = [2, 0, 0, 0, 0, 255, 0, 0, 0, 0, 2, 0, 0, 0, 0, 11];
+    assert!(rt; has_answer(&told, &table));
+    Ok(())
+}
