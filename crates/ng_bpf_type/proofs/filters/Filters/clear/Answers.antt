@@ -1,0 +1,18 @@
+-- One hook is changed, and each keeps its name.
+use Rattle.ng_machine.specs.Bpf.{Filter}
+use Rattle.ng_machine.specs.Counters.{zeros}
+use Rattle.ng_bpf_type.proofs.Trees.{changed, hooks_stay, index_changed}
+use Rattle.ng_bpf_type.proofs.filters.Filters.clear.Goals as goal
+
+pub invariant_of-self : goal.invariant_of-self
+invariant_of-self c =
+    index_changed c.self.inside.hooks.names c.self.inside.index c.clear_in.new.index c.args.hook.now (λ (f : Filter). record f { counters = zeros 6 }) (λ f e. e) c.self.invariant c.clear_in.ensures
+
+pub returns-clause-cleared : goal.returns-clause-cleared
+returns-clause-cleared c =
+    rw (← c.self.view_is) (changed c.self.inside.hooks.names c.self.inside.index c.clear_in.new.index c.args.hook.now (λ (f : Filter). record f { counters = zeros 6 }) c.self.invariant c.clear_in.ensures)
+
+pub returns-clause-hooks : goal.returns-clause-hooks
+returns-clause-hooks c =
+    rw (← c.self.view_is) (hooks_stay c.self.inside.hooks.names c.self.inside.index c.clear_in.new.index c.self.invariant
+    (index_changed c.self.inside.hooks.names c.self.inside.index c.clear_in.new.index c.args.hook.now (λ (f : Filter). record f { counters = zeros 6 }) (λ f e. e) c.self.invariant c.clear_in.ensures))

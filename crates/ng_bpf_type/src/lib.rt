@@ -1,0 +1,12 @@
+//! ng_bpf(4): the type of node whose hooks have programs that decide where packets go.
+#![tactic(auto)]
+
+mod arguments;
+mod filter;
+mod filters;
+mod messages;
+mod node;
+#[cfg(test)]
+mod tests;
+
+pub use node::{BpfNode, blank_bpf};
