@@ -1,0 +1,5 @@
+pub mod Heads
+pub mod Reversed
+pub mod Merged
+pub mod Steps
+pub mod Dealt

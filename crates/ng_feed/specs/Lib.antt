@@ -1,0 +1,6 @@
+pub mod Merge
+pub mod Best
+pub mod Inputs
+pub mod Early
+pub mod Dealing
+pub mod Examples
