@@ -18,7 +18,8 @@ cr_at (b ∷ next ∷ bytes) (suc m) e =
     ∙ cons_cond (eqb (get_or (next ∷ bytes) m 0) 0x0d) b (take m (next ∷ bytes)) (next ∷ bytes)
 
 -- the next line
-more_lines : (line : List ℕ) (parts parts' : List (List ℕ)) (part : List ℕ) (others : List (List ℕ)) → parts ≡ line ∷ parts' → parts' ≡ part ∷ others → lines_in parts ≡ without_cr line ∷ lines_in parts'
+more_lines : (line : List ℕ) (parts parts' : List (List ℕ)) (part : List ℕ) (others : List (List ℕ)) → parts ≡ line ∷ parts'
+    → parts' ≡ part ∷ others → lines_in parts ≡ without_cr line ∷ lines_in parts'
 more_lines line parts parts' part others first next = rw (first, next) refl
 
 pub line_at_place : (text : List ℕ) (place : ℕ) → position (λ b. eqb b 0x0a) text ≡ Some place

@@ -18,11 +18,13 @@ pub named_by_prefix : (word : List ℕ) (r : Result Verb Refusal) → find (λ v
 named_by_prefix word (Ok verb) none is = ap (or_prefix word) none ∙ is
 named_by_prefix word (Err why) none is = ap (or_prefix word) none ∙ is
 
-no_address : (bytes : List ℕ) → ReadsAddress → ((head : Head) (hooks : List (List ℕ)) → IsPath bytes head hooks → ⊥) → (found : Option Address) → read_address bytes ≡ found → is_some found ≡ false
+no_address : (bytes : List ℕ) → ReadsAddress → ((head : Head) (hooks : List (List ℕ)) → IsPath bytes head hooks → ⊥)
+    → (found : Option Address) → read_address bytes ≡ found → is_some found ≡ false
 no_address bytes law none None e = refl
 no_address bytes law none (Some address) e = absurd (none address.head address.hooks ((law bytes address.head address.hooks).0 e))
 
-pub is_ok_path : (bytes : List ℕ) (r : Result Path PathFault) (Told : PathFault → Type 0) → ReadsAddress → MatchResult r (λ path. IsPath bytes path.head path.hooks) Told
+pub is_ok_path : (bytes : List ℕ) (r : Result Path PathFault) (Told : PathFault → Type 0) → ReadsAddress
+    → MatchResult r (λ path. IsPath bytes path.head path.hooks) Told
     → ((head : Head) (hooks : List (List ℕ)) → IsPath bytes head hooks → IsOkAnd r (λ path. (path.head ≡ head) × (path.hooks ≡ hooks)))
     → is_ok r ≡ is_path bytes
 is_ok_path bytes (Ok path) Told law is read = sym (ap is_some ((law bytes path.head path.hooks).1 is))

@@ -95,7 +95,8 @@ one_more before line rest false short few more = record {
   ordered = (precedes_itself before.when, more.ordered);
 }
 
-one_line : (before : Before) (line : Line) (rest : List (When × Command)) → IsShort 4096 line → before.commands ≤ 4096 → is_wrong before line ≡ false → is_more before line ≡ false
+one_line : (before : Before) (line : Line) (rest : List (When × Command)) → IsShort 4096 line → before.commands ≤ 4096
+    → is_wrong before line ≡ false → is_more before line ≡ false
     → ((past before line).commands ≤ 4096 → IsOrderly (past before line) rest) → IsOrderly before (commands_at before line rest)
 one_line before Skipped rest short few right room more = more few
 one_line before (Mark None) rest short few right room more = absurd (false≢true (sym right))
@@ -131,7 +132,8 @@ or_none : (a b : Option ScriptFault) → or_else a b ≡ None → (a ≡ None) �
 or_none None b e = (refl, e)
 or_none (Some fault) b e = absurd (cc e)
 
-lines_are_orderly : (n : ℕ) (before : Before) (lines : List (List ℕ)) → before.commands ≤ 4096 → fault_from n before lines ≡ None → IsOrderly before (commands_from before lines)
+lines_are_orderly : (n : ℕ) (before : Before) (lines : List (List ℕ)) → before.commands ≤ 4096 → fault_from n before lines ≡ None
+    → IsOrderly before (commands_from before lines)
 lines_are_orderly n before [] few e = record { few = omega arith; each = tt; ordered = tt }
 lines_are_orderly n before (line ∷ lines) few e =
     let parts = or_none (fault_of n before line) (fault_from (n + 1) (past before (line_of line)) lines) e in

@@ -31,7 +31,13 @@ from_place p i (x ∷ xs) place h = elim (cases_Bool (p x)) [
   | inr miss ↦ let later = from_place p (i + 1) xs place (rw miss at h) in (
     suc later.0,
     (let at = later.1 in omega arith),
-    record { hit = later.2.hit; passes = later.2.passes; free = (miss, later.2.free); behind = later.2.behind; parts = slice_split-cons_no p x xs miss ∙ ap (onto_first x) later.2.parts },
+    record {
+      hit = later.2.hit;
+      passes = later.2.passes;
+      free = (miss, later.2.free);
+      behind = later.2.behind;
+      parts = slice_split-cons_no p x xs miss ∙ ap (onto_first x) later.2.parts;
+    },
   )
 ]
 

@@ -21,9 +21,13 @@ joined_nothing : (over : Bool) (commands : List (When × Command)) → unless_ov
 joined_nothing true commands = refl
 joined_nothing false commands = append-nil commands
 
-pub all_read : (bytes : List ℕ) (reading : Reading) (lines : List (List ℕ)) → IsReadSoFar bytes reading lines → lines ≡ [] → commands_of bytes ≡ reading.commands.items
+pub all_read : (bytes : List ℕ) (reading : Reading) (lines : List (List ℕ)) → IsReadSoFar bytes reading lines → lines ≡ []
+    → commands_of bytes ≡ reading.commands.items
 all_read bytes reading lines is none =
-    is.commands ∙ ap (λ (all : List (List ℕ)). joined reading (commands_from (before_of reading) all)) none ∙ joined_nothing reading.is_over reading.commands.items
+    is.commands ∙ ap (λ (all : List (List ℕ)). joined reading (commands_from (before_of reading) all)) none
+    ∙ joined_nothing reading.is_over reading.commands.items
 
-pub read_in_order : (bytes : List ℕ) (reading : Reading) (lines : List (List ℕ)) → IsReadSoFar bytes reading lines → lines ≡ [] → AreCommands reading.commands.items
-read_in_order bytes reading lines is none = subst AreCommands (all_read bytes reading lines is none) (are_commands bytes (none_told bytes reading lines is none))
+pub read_in_order : (bytes : List ℕ) (reading : Reading) (lines : List (List ℕ)) → IsReadSoFar bytes reading lines → lines ≡ []
+    → AreCommands reading.commands.items
+read_in_order bytes reading lines is none =
+    subst AreCommands (all_read bytes reading lines is none) (are_commands bytes (none_told bytes reading lines is none))

@@ -34,7 +34,9 @@ head_other : (text : List ℕ) (hit : ℕ) (rest : List ℕ) → past_blanks tex
 head_other [] hit rest e = absurd (cc e)
 head_other (b ∷ text) hit rest e = elim (cases_Bool (is_blank b)) [
   | inl blank ↦ head_other text hit rest (sym (cond-true (is_blank b) (past_blanks text) (b ∷ text) blank) ∙ e)
-  | inr other ↦ (let both : b ∷ text ≡ hit ∷ rest = sym (cond-false (is_blank b) (past_blanks text) (b ∷ text) other) ∙ e in let same : b ≡ hit = cc both in ap is_blank (sym same) ∙ other)
+  | inr other ↦ (
+      let both : b ∷ text ≡ hit ∷ rest = sym (cond-false (is_blank b) (past_blanks text) (b ∷ text) other) ∙ e in
+      let same : b ≡ hit = cc both in ap is_blank (sym same) ∙ other)
 ]
 
 -- a text without blanks in front begins with a word
@@ -64,7 +66,8 @@ word_at_place text place n some found =
     let split = split_at_place is_blank text place found in
     record {
       words = ap words_among split.parts ∙ some_word (take place text) n (slice_split is_blank (drop (suc place) text)) some
-          ∙ ap (λ (words : List (List ℕ)). take place text ∷ words) (sym (ap words_in split.behind ∙ words_past_blank split.hit (drop (suc place) text) split.passes));
+          ∙ ap (λ (words : List (List ℕ)). take place text ∷ words)
+          (sym (ap words_in split.behind ∙ words_past_blank split.hit (drop (suc place) text) split.passes));
       behind = past_free text (drop (suc place) text) place split.free split.hit split.passes split.behind;
     }
 
@@ -82,7 +85,8 @@ some_before text (b ∷ t) (suc place) same split = omega arith
 shorter_behind : (t : List ℕ) (n : ℕ) → length (take n t) ≡ suc (length (take n t) - 1) → length (drop n t) < length t
 shorter_behind t n some = grind (arith, common_steps)
 
-pub next_at_place : (text t : List ℕ) (place : ℕ) → t ≡ past_blanks text → position is_blank t ≡ Some place → IsNextWord text (take place t) (take (length t - place) (drop place t))
+pub next_at_place : (text t : List ℕ) (place : ℕ) → t ≡ past_blanks text → position is_blank t ≡ Some place
+    → IsNextWord text (take place t) (take (length t - place) (drop place t))
 next_at_place text t place same found =
     let some = some_before text t place same (split_at_place is_blank t place found) in
     let begins = word_at_place t place (length (take place t) - 1) some found in
@@ -94,7 +98,8 @@ next_at_place text t place same found =
       shorter = (let less = shorter_behind t place some in let most = shorter_past_blanks text in let e = ap length same in omega arith);
     })
 
-pub next_alone : (text t : List ℕ) → t ≡ past_blanks text → 0 < length t → position is_blank t ≡ None → IsNextWord text t (take (length t - length t) (drop (length t) t))
+pub next_alone : (text t : List ℕ) → t ≡ past_blanks text → 0 < length t → position is_blank t ≡ None
+    → IsNextWord text t (take (length t - length t) (drop (length t) t))
 next_alone text t same some found =
     let free = free_nowhere is_blank t found in
     let at : [] ≡ take (length t - length t) (drop (length t) t) = sym (nothing_left t) in

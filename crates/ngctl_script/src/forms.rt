@@ -1,6 +1,7 @@
 // The form of each command: what its words ask for.
 ghost use Rattle.std.specs.Prelude.{◌≡◌, ◌∷◌, [], List, ℕ, IfOk};
-ghost use Rattle.ngctl_script.specs.Forms.{asked as asked_words, config_of, connect_of, help_words, is_path, list_of, mkpeer_of, msg_of, name_of, one_path, no_words, rmhook_of, show_of, what_of};
+ghost use Rattle.ngctl_script.specs.Forms.{asked as asked_words, config_of, connect_of, help_words, is_path, list_of, mkpeer_of, what_of};
+ghost use Rattle.ngctl_script.specs.Forms.{msg_of, name_of, one_path, no_words, rmhook_of, show_of};
 ghost use Rattle.ngctl_script.specs.Lines.{past_blanks};
 ghost use Rattle.ngctl_script.specs.Refusals.{Asks, IsNamed, IsPathed};
 ghost use Rattle.ngctl_script.specs.Words.{past_word, words_in};

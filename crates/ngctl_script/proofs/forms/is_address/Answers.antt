@@ -5,4 +5,5 @@ use Rattle.ngctl_script.proofs.forms.is_address.Goals as goal
 
 pub returns : goal.returns
 returns c =
-    c.is_ok.ensures.value ∙ is_ok_path c.args.word.now c.read_path.result (IsFirstFault c.args.word.now) c.reads_address.ensures c.read_path.ensures.read c.read_path.ensures.path
+    c.is_ok.ensures.value
+    ∙ is_ok_path c.args.word.now c.read_path.result (IsFirstFault c.args.word.now) c.reads_address.ensures c.read_path.ensures.read c.read_path.ensures.path

@@ -17,5 +17,7 @@ loop-byte-preserved c =
     record {
       some = c.loop-byte.invariant.some;
       rest = digit_more r ds i c.loop-byte-test.true small ∙ c.loop-byte.invariant.rest;
-      front = c.min-number.ensures ∙ rw (c.loop-byte.invariant.front, h.1, c.from.ensures, more) (capped_more (digits_value r (take i ds)) r (digit_value (get_or ds i 0)) (omega arith));
+      front = c.min-number.ensures
+          ∙ rw (c.loop-byte.invariant.front, h.1, c.from.ensures, more)
+          (capped_more (digits_value r (take i ds)) r (digit_value (get_or ds i 0)) (omega arith));
     }
