@@ -4,6 +4,7 @@
 
 mod dump;
 mod line;
+mod port;
 mod stop;
 mod summary;
 #[cfg(test)]
@@ -11,6 +12,7 @@ mod tests;
 mod text;
 mod told;
 
+pub use port::print_port;
 pub use stop::PrintStop;
 pub use summary::print_summary;
 pub use text::print_text;

@@ -1,7 +1,7 @@
 // The text of runs, as tables, and what a sink holds of it that is slow, fails or has little room.
-use crate::{PrintStop, print_summary, print_text, print_told};
+use crate::{PrintStop, print_port, print_summary, print_text, print_told};
 use ng_base::{Bytes, Errno, Name, NoMemory, Packet};
-use ng_machine::{Told, Totals};
+use ng_machine::{PortTotals, Told, Totals};
 use ng_outside::MemSink;
 use ngctl_words::{Script, read_script};
 use std::alloc::Global;
@@ -142,6 +142,27 @@ lost: no peer 6, node gone 7, full 8, spool 9
 graph: nodes 10, hooks 4100
 ";
     assert_eq!(rt; str::from_utf8(sink.bytes())?, text);
+    Ok(())
+}
+
+#[test]
+fn a_port_has_a_line(rt: HostRuntime) -> Result<(), Fail> {
+    let name = Name::read(b"em0")?;
+    for (fed, left, up, cut, text) in [
+        (3, 4, 5, None, "port em0: in 3, left 4, up 5\n"),
+        (
+            1,
+            0,
+            0,
+            Some(54),
+            "port em0: in 1, left 0, up 0, capture cut at byte 54\n",
+        ),
+    ] {
+        let totals = PortTotals { fed, left, up };
+        let mut sink = sink_of(rt.alloc(), 100, false, 0)?;
+        print_port(rt.alloc(), &name, &totals, cut, &mut sink)?;
+        assert_eq!(rt; str::from_utf8(sink.bytes())?, text);
+    }
     Ok(())
 }
 
