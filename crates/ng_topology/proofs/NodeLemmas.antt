@@ -14,8 +14,10 @@ use Rattle.ng_machine.specs.Stock.{has_kind}
 use Rattle.ng_machine.specs.Rules.{accepts_hook, may_of}
 use Rattle.ng_machine.specs.World.{NodeRecord, node_in, kind_at, has_hook, is_named, change_hook, settle_hook, bind_to}
 use Rattle.ng_machine.specs.declared.plan.Plan.{Plan}
-use Rattle.ng_machine.specs.State.{State, kind_of, blank_of, add_hook, cut_hook, kept_without_hook, way_of}
-use Rattle.ng_machine.proofs.Owed.{made_kind, cut_kind}
+use Rattle.ng_machine.specs.State.{State, KindState, HubState, HoleState, EchoState, SplitState, SocketState, TeeState, One2manyState, BridgeState, VlanState, PatchState, BpfState, EtherState, EtfState, MacsetState, kind_of, kind_of_kept, blank_of, add_hook, cut_hook, kept_without_hook, way_of}
+use Rattle.ng_machine.specs.Counters.{Count}
+use Rattle.ng_machine.specs.Case.{absorb}
+use Rattle.ng_machine.proofs.Owed.{made_kind, cut_kind, absorb_way}
 use Rattle.std.proofs.lemmas.List.Elements.{All-push}
 use Rattle.ng_topology.proofs.StockLemmas.{blank_kind}
 use Rattle.ng_topology.specs.Hooks.{without_named, is_linked}
@@ -106,6 +108,39 @@ consistent_cut kind was now hooks after plan next name consistent is less planne
       hooks = ap (map (λ h. h.name)) less ∙ names ∙ sym (ap (λ (s : State). s.hooks) is);
       planned = planned ∙ ap (λ (l : List (List ℕ)). way_of (record { hooks = l; kept = kept_without_hook was.kept name })) names ∙ sym (ap way_of is);
     }
+
+-- WHAT AN ENTRY SAYS AFTER ITS BOX CAME HOME AS IT WENT, OR COUNTED
+
+pub consistent_restored : (kind : Kind) (was now : State) (hooks : List Hook) (plan : Option Plan) → IsConsistent kind was hooks plan → now ≡ record { hooks = map (λ h. h.name) hooks; kept = was.kept } → IsConsistent kind now hooks plan
+consistent_restored kind was now hooks plan consistent is = record {
+  kind = ap kind_of is ∙ consistent.kind;
+  hooks = sym (ap (λ (s : State). s.hooks) is);
+  planned = consistent.planned ∙ ap (λ (l : List (List ℕ)). way_of (record { hooks = l; kept = was.kept })) (sym consistent.hooks) ∙ sym (ap way_of is);
+}
+
+-- to move to ng_machine
+pub absorb_kind : (kept : KindState) (counts : List Count) → kind_of_kept (absorb kept counts) ≡ kind_of_kept kept
+absorb_kind (TeeState s) counts = refl
+absorb_kind (BridgeState s) counts = refl
+absorb_kind (BpfState s) counts = refl
+absorb_kind (EtfState s) counts = refl
+absorb_kind (MacsetState s) counts = refl
+absorb_kind (One2manyState s) counts = refl
+absorb_kind (HubState s) counts = refl
+absorb_kind HoleState counts = refl
+absorb_kind EchoState counts = refl
+absorb_kind SplitState counts = refl
+absorb_kind SocketState counts = refl
+absorb_kind (VlanState s) counts = refl
+absorb_kind (PatchState s) counts = refl
+absorb_kind (EtherState s) counts = refl
+
+pub consistent_absorbed : (kind : Kind) (was now : State) (hooks : List Hook) (plan : Option Plan) (counts : List Count) → IsConsistent kind was hooks plan → now ≡ record was { kept = absorb was.kept counts } → IsConsistent kind now hooks plan
+consistent_absorbed kind was now hooks plan counts consistent is = record {
+  kind = ap kind_of is ∙ absorb_kind was.kept counts ∙ consistent.kind;
+  hooks = consistent.hooks ∙ sym (ap (λ (s : State). s.hooks) is);
+  planned = consistent.planned ∙ sym (absorb_way was.kept was.hooks counts) ∙ sym (ap way_of is);
+}
 
 -- WHERE `may` ANSWERS OK
 

@@ -1,5 +1,5 @@
 -- Of each number it is known whether a box is at home, and a box that is at home has a node.
-use Rattle.std.proofs.Common.{◌≡◌, ◌⊎◌, ⊎_elim, ℕ, zero, suc, ◌+◌, ◌<◌, ◌≤◌, Bool, true, false, List, [], ◌∷◌, ◌++◌, map, length, get_or, set, is_some, Option, Some, None, refl, sym, ap, ◌∙◌, subst, inl, inr, arith}
+use Rattle.std.proofs.Common.{◌≡◌, ◌⊎◌, ⊎_elim, ℕ, zero, suc, ◌+◌, Bool, true, false, List, [], ◌∷◌, ◌++◌, map, length, get_or, set, Option, Some, None, refl, sym, ap, ◌∙◌, subst, inl, inr, arith}
 use Rattle.std.specs.Prelude.{IsSome}
 use Rattle.std.specs.Option.{option_map}
 use Rattle.std.proofs.lemmas.List.{length-set, length-append}
@@ -9,7 +9,7 @@ use Rattle.ng_base.specs.declared.ids.NodeId.{NodeId}
 use Rattle.ng_machine.specs.World.{NodeRecord, node_in}
 use Rattle.ng_topology.specs.NodeEntry.{NodeEntry}
 use Rattle.ng_topology.specs.Soundness.{SoundnessStays}
-use Rattle.ng_topology.specs.Topology.{Topology, node_of, home_of, IsSound, IsThere, IsAtHome, use_link, change_node, make_node, retire_node, lend_box, give_box, with_kept}
+use Rattle.ng_topology.specs.Topology.{Topology, node_of, home_of, IsSound, IsThere, use_link, change_node, make_node, retire_node, lend_box, give_box, with_kept}
 
 pub as_many : (entries : List (Option NodeEntry)) → length (map home_of entries) ≡ length (map node_of entries)
 as_many [] = refl

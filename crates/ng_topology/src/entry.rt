@@ -3,6 +3,7 @@ ghost use Rattle.std.specs.Prelude.{◌≡◌, true, false, if◌then◌else◌,
 ghost use Rattle.std.specs.Arc.{arc_value};
 ghost use Rattle.std.specs.Option.{option_map, option_copied};
 ghost use Rattle.ng_machine.specs.Errors.{eexist};
+ghost use Rattle.ng_machine.specs.Case.{absorb};
 ghost use Rattle.ng_machine.specs.Rules.{may_of};
 ghost use Rattle.ng_machine.specs.State.{State, kind_of, blank_of, way_of};
 ghost use Rattle.ng_machine.specs.World.{is_named, linked_hook, kind_at, state_of, has_hook, hook_of, with_hook, without_hook, with_changed_hook, settle_hook, bind_to, blank_node};
@@ -12,7 +13,7 @@ ghost use Rattle.ng_topology.specs.Topology.{FitsNode, with_kept};
 use crate::Hooks;
 use crate::plans::hook_and_plan;
 use ng_base::{Errno, Kind, LinkId, Name, NoMemory};
-use ng_machine::{End, Hook};
+use ng_machine::{Counts, End, Hook};
 use ng_node::Node;
 use ng_plan::Plan;
 use std::alloc::Global;
@@ -279,6 +280,25 @@ impl<B: Node> Entry<B> {
     {
         self.home = Some(node);
         self.plan = next;
+    }
+
+    /// Brings the box home as it went: the node keeps its plan.
+    pub fn restore(&mut self, node: B)
+        requires same { B.state node ≡ state_of self.old.node }
+        ensures { self.new ≡ record { node = with_kept (B.state node).kept self.old.node; home = true } }
+    {
+        self.home = Some(node);
+    }
+
+    /// Adds what was counted to the counters of the box, which is at home. The node keeps its plan.
+    pub fn absorb(&mut self, counts: &Counts)
+        requires home { self.old.home ≡ true }
+        ensures { self.new ≡ with_node self.old (with_kept (absorb self.old.node.kept counts.now) self.old.node) }
+    {
+        let Some(node) = &mut self.home else {
+            unreachable!()
+        };
+        node.absorb(counts);
     }
 
     /// The box, which is at home.

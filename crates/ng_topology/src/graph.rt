@@ -2,6 +2,7 @@
 ghost use Rattle.std.specs.Prelude.{◌≡◌, ◌↔◌, ◌+◌, ◌<◌, ◌≤◌, All, true, false, if◌then◌else◌, length, map, is_some, IfOk, IsOk, OnOk, OnErr, IsSome, Some, None, Ok, Err};
 ghost use Rattle.std.specs.Arc.{arc_value};
 ghost use Rattle.std.specs.Option.{option_map, option_copied};
+ghost use Rattle.ng_machine.specs.Case.{absorb};
 ghost use Rattle.ng_machine.specs.Errors.{enfile, eexist};
 ghost use Rattle.ng_machine.specs.Rules.{accepts_hook, may_of};
 ghost use Rattle.ng_machine.specs.State.{kind_of, blank_of, way_of};
@@ -14,7 +15,7 @@ ghost use Rattle.ng_topology.specs.declared.graph.MakeFault.TheVariants.{Used};
 use crate::names::{enter_name, forget_name};
 use crate::{Entry, Hooks, Places, Stock};
 use ng_base::{Errno, Kind, LinkId, Name, NoMemory, NodeId};
-use ng_machine::{End, Hook};
+use ng_machine::{Counts, End, Hook};
 use ng_node::Node;
 use ng_path::{Head, Path};
 use ng_plan::Plan;
@@ -319,6 +320,23 @@ impl<B: Node> Graph<B> {
         ensures { self.new ≡ give_box self.old id (B.state node) }
     {
         self.places.give(id, node, next);
+    }
+
+    /// Brings a lent box home as it went: with the state that the node has, whose plan stays. It takes no memory.
+    pub fn restore(&mut self, id: NodeId, node: B)
+        requires there { IsThere self.old id }
+        requires same { (it : NodeRecord) → node_in self.old.nodes id ≡ Some it → B.state node ≡ state_of it }
+        ensures { self.new ≡ give_box self.old id (B.state node) }
+    {
+        self.places.restore(id, node);
+    }
+
+    /// Adds what was counted to the counters of a node, whose box is at home; its plan stays. It takes no memory.
+    pub fn absorb(&mut self, id: NodeId, counts: &Counts)
+        requires { IsAtHome self.old id }
+        ensures { self.new ≡ change_node self.old id (λ node. record node { kept = absorb node.kept counts.now }) }
+    {
+        self.places.absorb(id, counts);
     }
 
     /// Removes a node, whose box is at home, with its name and its hooks: the box. It takes no memory.

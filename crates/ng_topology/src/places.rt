@@ -3,6 +3,7 @@ ghost use Rattle.std.specs.Prelude.{◌≡◌, ◌+◌, ◌<◌, ◌≤◌, ◌+
 ghost use Rattle.std.specs.Arc.{arc_value};
 ghost use Rattle.std.specs.Option.{option_map};
 ghost use Rattle.ng_base.specs.declared.ids.NodeId.{NodeId};
+ghost use Rattle.ng_machine.specs.Case.{absorb};
 ghost use Rattle.ng_machine.specs.State.{way_of};
 ghost use Rattle.ng_machine.specs.World.{NodeRecord, node_in, state_of, with_hook, without_hook, with_changed_hook, settle_hook, bind_to};
 ghost use Rattle.ng_topology.specs.NodeEntry.{NodeEntry, AcceptsHook};
@@ -10,7 +11,7 @@ ghost use Rattle.ng_topology.specs.Topology.{FitsNode, change_at, linked_hook_at
 
 use crate::Entry;
 use ng_base::{LinkId, Name, NoMemory, NodeId};
-use ng_machine::{End, Hook};
+use ng_machine::{Counts, End, Hook};
 use ng_node::Node;
 use ng_plan::Plan;
 use std::alloc::Global;
@@ -198,6 +199,31 @@ impl<B: Node> Places<B> {
     {
         match &mut self.entries[id.0 as usize] {
             Some(entry) => entry.give(node, next),
+            None => unreachable!(),
+        }
+    }
+
+    /// Brings a box home as it went.
+    #[tactic(auto, using(crate::proofs::PlaceLemmas::there_inside))]
+    pub fn restore(&mut self, id: NodeId, node: B)
+        requires there { IsSome (node_in self.old.nodes id) }
+        requires same { (it : NodeRecord) → node_in self.old.nodes id ≡ Some it → B.state node ≡ state_of it }
+        ensures { self.new ≡ record self.old { nodes = change_at self.old.nodes id (with_kept (B.state node).kept); home = slice_set self.old.home id.0 true } }
+    {
+        match &mut self.entries[id.0 as usize] {
+            Some(entry) => entry.restore(node),
+            None => unreachable!(),
+        }
+    }
+
+    /// Adds what was counted to the counters of a node whose box is at home.
+    #[tactic(auto, using(crate::proofs::PlaceLemmas::home_inside))]
+    pub fn absorb(&mut self, id: NodeId, counts: &Counts)
+        requires home { slice_index_or self.old.home id.0 false ≡ true }
+        ensures { self.new ≡ record self.old { nodes = change_at self.old.nodes id (λ node. with_kept (absorb node.kept counts.now) node) } }
+    {
+        match &mut self.entries[id.0 as usize] {
+            Some(entry) => entry.absorb(counts),
             None => unreachable!(),
         }
     }

@@ -1,5 +1,5 @@
 -- Each box is blank as it was made.
-use Rattle.std.proofs.Common.{◌≡◌, ◌∙◌, [], ap, subst, sym, arith}
+use Rattle.std.proofs.Common.{◌≡◌, ◌∙◌, ap, subst, sym, arith}
 use Rattle.ng_base.specs.declared.kind.Kind.TheVariants.{Echo, Hub}
 use Rattle.ng_machine.specs.State.{blank_of}
 use Rattle.ng_topology.proofs.NodeLemmas.{blank_push}

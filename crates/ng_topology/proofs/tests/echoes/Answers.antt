@@ -1,6 +1,5 @@
 -- Each echo has no hook yet.
-use Rattle.std.proofs.Common.{◌≡◌, ◌∙◌, ℕ, List, [], length, ap, arith}
-use Rattle.std.proofs.lemmas.Grind.{common_steps}
+use Rattle.std.proofs.Common.{ℕ, List, ap}
 use Rattle.ng_machine.specs.State.{State, EchoState}
 use Rattle.ng_topology.proofs.tests.echoes.Goals as goal
 

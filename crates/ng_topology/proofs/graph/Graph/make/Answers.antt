@@ -1,5 +1,5 @@
 -- The name was free, and stands for the new node; where memory ran out the index is as it was.
-use Rattle.std.proofs.Common.{◌∙◌, ap}
+use Rattle.std.proofs.Common.{ap}
 use Rattle.ng_machine.specs.World.{node_id}
 use Rattle.ng_topology.specs.NodeEntry.{NodeEntry}
 use Rattle.ng_topology.proofs.NameLemmas.{consistent_make, free_under, same_entries}

@@ -1,9 +1,9 @@
 -- The entry at the place is the node of that number.
-use Rattle.std.proofs.Common.{◌≡◌, ◌∙◌, false, get_or, map, sym, Some, None}
+use Rattle.std.proofs.Common.{◌≡◌, get_or, map, Some, None}
 use Rattle.std.specs.Prelude.{IsSome}
 use Rattle.ng_machine.specs.World.{node_in}
-use Rattle.ng_topology.specs.Topology.{node_of, home_of, with_kept}
-use Rattle.ng_topology.proofs.PlaceLemmas.{entry_node, entry_home, places_give, found_there, nobody_there}
+use Rattle.ng_topology.specs.Topology.{node_of, with_kept}
+use Rattle.ng_topology.proofs.PlaceLemmas.{entry_node, places_give, found_there, nobody_there}
 use Rattle.ng_topology.proofs.places.Places.give.Goals as goal
 
 pub unreachable-requires : goal.unreachable-requires

@@ -1,0 +1,24 @@
+-- The entry at the place is the node of that number.
+use Rattle.std.proofs.Common.{◌≡◌, get_or, map, Some, None}
+use Rattle.std.specs.Prelude.{IsSome}
+use Rattle.ng_machine.specs.World.{node_in}
+use Rattle.ng_topology.specs.Topology.{node_of, with_kept}
+use Rattle.ng_topology.proofs.PlaceLemmas.{entry_node, places_give, found_there, nobody_there}
+use Rattle.ng_topology.proofs.places.Places.restore.Goals as goal
+
+pub unreachable-requires : goal.unreachable-requires
+unreachable-requires g c =
+    let there : IsSome (node_in (map node_of c.self.inside.entries.items) c.args.id) = rw (← c.self.view_is) at c.requires.there in
+    nobody_there c.self.inside.entries.items c.args.id.0 c.index_mut.result.now there c.index_mut.ensures.value c.in-None.is
+
+pub restore-requires-clause-same : goal.restore-requires-clause-same
+restore-requires-clause-same g c κs within =
+    let there : IsSome (node_in (map node_of c.self.inside.entries.items) c.args.id) = rw (← c.self.view_is) at c.requires.there in
+    let at : get_or c.self.inside.entries.items c.args.id.0 None ≡ Some c.in-Some.entry = found_there c.self.inside.entries.items c.args.id.0 c.in-Some.entry c.index_mut.result.now there c.index_mut.ensures.value c.in-Some.is in
+    c.requires.same c.in-Some.entry.node (rw (← c.self.view_is) (entry_node c.self.inside.entries.items c.args.id c.in-Some.entry at))
+
+pub returns : goal.returns
+returns g c =
+    let there : IsSome (node_in (map node_of c.self.inside.entries.items) c.args.id) = rw (← c.self.view_is) at c.requires.there in
+    let at : get_or c.self.inside.entries.items c.args.id.0 None ≡ Some c.in-Some.entry = found_there c.self.inside.entries.items c.args.id.0 c.in-Some.entry c.index_mut.result.now there c.index_mut.ensures.value c.in-Some.is in
+    rw (← c.self.view_is) (places_give c.self.inside.entries.items c.args.id c.self.inside.room c.in-Some.entry c.restore.new.self (with_kept (g.B.Node.state c.args.node).kept) at c.restore.ensures)
