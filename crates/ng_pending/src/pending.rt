@@ -215,6 +215,7 @@ impl Pending {
         requires numbers { HasNumbers 0 self.old.tally }
         ensures items { (a : RunState) → HoldsItems self.old a → NoneOut a at.0 → result.items ≡ items_of a.world at }
         ensures holds { (a : RunState) → HoldsItems self.old a → NoneOut a at.0 → HoldsItems self.new (in_world a (retire a.world at)) }
+        ensures spares { self.new.queues.spares ≡ slice_set self.old.queues.spares at.0 0 }
         ensures lists { length self.new.queues.lists ≡ length self.old.queues.lists }
         ensures numbers { (k : ℕ) → HasNumbers k self.old.tally → HasNumbers k self.new.tally }
     {

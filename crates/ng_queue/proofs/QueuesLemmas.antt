@@ -85,6 +85,9 @@ set_same (y ∷ xs) zero x e = ap (λ (z : ℕ). z ∷ xs) e
 set_same (y ∷ xs) (suc at) x e = ap (λ (l : List ℕ). y ∷ l) (set_same xs at x e)
 
 -- the room stays, or one place is spent
+pub spares_put : (qs : List Queue) (v : QueueLists) (at : ℕ) (now : Queue) → record { lists = map list_of qs; spares = map spare_of qs } ≡ v → map spare_of (set qs at now) ≡ set v.spares at now.spare
+spares_put qs v at now e = map-set spare_of qs at now ∙ ap (λ (u : QueueLists). set u.spares at now.spare) e
+
 pub spares_kept : (qs : List Queue) (v : QueueLists) (at : ℕ) (was now : Queue) → record { lists = map list_of qs; spares = map spare_of qs } ≡ v → at < length qs → was ≡ get_or qs at was → now.spare ≡ was.spare → map spare_of (set qs at now) ≡ v.spares
 spares_kept qs v at was now is lt w e =
     map-set spare_of qs at now ∙ set_same (map spare_of qs) at now.spare (e ∙ sym (spare_here qs at was lt w)) ∙ ap (λ (u : QueueLists). u.spares) is

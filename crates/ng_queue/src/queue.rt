@@ -153,6 +153,13 @@ impl NodeQueue {
         }
     }
 
+    /// All entries, in order of acceptance.
+    pub fn entries(&self) -> &VecDeque<Entry>
+        ensures { result.now.items ≡ self.now.entries }
+    {
+        &self.entries
+    }
+
     /// Why the head can't be taken, or `None` where it can. It takes no memory.
     pub fn hold(&self) -> Option<Hold>
         ensures { result ≡ hold_of self.now.entries }

@@ -5,11 +5,12 @@ ghost use Rattle.ng_queue.specs.Queues.{list_at, spare_at, ready_of, NoneReady, 
 ghost use Rattle.ng_queue.specs.declared.entry.Entry.TheVariants.{Waiting};
 ghost use Rattle.ng_machine.specs.World.{item_id};
 
-use crate::NodeQueue;
 use crate::ready::Ready;
+use crate::{Entry, NodeQueue};
 use ng_base::{ItemId, NoMemory};
 use ng_machine::Item;
 use std::alloc::Global;
+use std::collections::VecDeque;
 use std::marker::Model;
 
 /// A queue for each node, by number, all made at once, and the least of the heads that can be taken. Finding that
@@ -93,6 +94,14 @@ impl Queues {
         }
     }
 
+    /// The entries of a node's queue, in order of acceptance.
+    pub fn entries(&self, at: usize) -> &VecDeque<Entry>
+        requires { at < length self.now.lists }
+        ensures { result.now.items ≡ list_at self.now.lists at }
+    {
+        self.queues[at].entries()
+    }
+
     /// Makes room for at least one item more at this node.
     ///
     /// # Errors
@@ -164,6 +173,7 @@ impl Queues {
         requires waits { AllWait (list_at self.old.lists at) }
         ensures items { result.items ≡ waiting_items (list_at self.old.lists at) }
         ensures lists { self.new.lists ≡ set self.old.lists at [] }
+        ensures spares { self.new.spares ≡ set self.old.spares at 0 }
     {
         let items = self.queues[at].purge();
         self.ready.put(at, ready_id(&self.queues[at]));

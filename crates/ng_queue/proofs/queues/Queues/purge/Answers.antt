@@ -1,9 +1,9 @@
-use Rattle.std.proofs.Common.{List, [], subst, sym, ap}
+use Rattle.std.proofs.Common.{◌∙◌, List, [], set, subst, sym, ap}
 use Rattle.ng_machine.specs.World.{item_id}
 use Rattle.ng_queue.specs.declared.entry.Entry.{Entry}
-use Rattle.ng_queue.specs.Queue.{IsBelow}
+use Rattle.ng_queue.specs.Queue.{IsBelow, Queue}
 use Rattle.ng_queue.specs.Queues.{list_of}
-use Rattle.ng_queue.proofs.QueuesLemmas.{is_there, lists_put, ready_put, below_put, ready_low}
+use Rattle.ng_queue.proofs.QueuesLemmas.{is_there, lists_put, ready_put, below_put, ready_low, spares_put}
 use Rattle.ng_queue.proofs.queues.Queues.purge.Goals as goal
 
 pub invariant_of-self : goal.invariant_of-self
@@ -22,3 +22,7 @@ pub put-requires-clause-id : goal.put-requires-clause-id
 put-requires-clause-id c =
     let lt = is_there c.self.inside.queues.items c.args.self.now c.args.at c.self.view_is c.requires.there in
     ready_low c.self.inside.queues.items c.args.at c.purge-items.new.self c.index.result.now c.ready_id.result lt (subst (IsBelow (item_id 18446744073709551615)) (sym (ap list_of c.purge-items.ensures.queue)) tt) c.ready_id.ensures c.index.ensures
+
+pub returns-clause-spares : goal.returns-clause-spares
+returns-clause-spares c = spares_put c.self.inside.queues.items c.args.self.now c.args.at c.purge-items.new.self c.self.view_is
+    ∙ ap (λ (q : Queue). set c.args.self.now.spares c.args.at q.spare) c.purge-items.ensures.queue
