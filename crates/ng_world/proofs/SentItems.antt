@@ -88,7 +88,7 @@ not_its_own t pending p n x s hx h may away node writes e =
     true≢false (sym home ∙ ap (λ (k : ℕ). get_or t.home k false) (sym to) ∙ away))
     may
 
-out_but : (t : Topology) (node : NodeRecord) (pending : List Item) (taken : List Taken) (p : Item) (n : ℕ) → IsSorted 0 pending → Has p pending → MayLeave t p → is_home t (node_id n) ≡ false → WriterOut node pending taken n
+pub out_but : (t : Topology) (node : NodeRecord) (pending : List Item) (taken : List Taken) (p : Item) (n : ℕ) → IsSorted 0 pending → Has p pending → MayLeave t p → is_home t (node_id n) ≡ false → WriterOut node pending taken n
     → WriterOut node (without p.id.0 pending) (untaken p.id.0 taken) n
 out_but t node pending taken p n s h may away W = ⊎_elim
     (λ (e : W.item.id.0 ≡ p.id.0). absurd (not_its_own t pending p n W.item s W.is_pending h may away W.node_is W.writes e))
