@@ -1,0 +1,10 @@
+pub mod Numbers
+pub mod NodesChanged
+pub mod Ports
+pub mod Exits
+pub mod Sending
+pub mod Changes
+pub mod Readings
+pub mod LeavingRoom
+pub mod Writings
+pub mod Owns

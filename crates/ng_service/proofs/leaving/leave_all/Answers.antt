@@ -1,0 +1,33 @@
+use Rattle.std.proofs.Common.{◌≡◌, ◌∙◌, ℕ, ◌+◌, List, ◌∷◌, length, sym, ap, subst, arith, rules}
+use Rattle.ng_machine.specs.declared.body.Exit.{Exit}
+use Rattle.ng_machine.specs.Change.{change_all, leave}
+use Rattle.ng_machine.specs.Effect.{exits}
+use Rattle.ng_pending.specs.Holds.{in_world}
+use Rattle.ng_tally.specs.Tally.{HasNumbers}
+use Rattle.ng_service.specs.Leaving.{AllMayLeaveBy, name_or_empty}
+use Rattle.ng_service.specs.Room.{HasRoomToLeave}
+use Rattle.ng_service.proofs.leaving.leave_all.Goals as goal
+
+pub loop-exit-preserved : goal.loop-exit-preserved
+loop-exit-preserved g c =
+    let next : c.loop-exit.exit-iterator.rest.items ≡ (c.in-Some.exit, c.in-Some.packet) ∷ c.next.new.self.rest.items = search rules in
+    let more : length c.loop-exit.exit-iterator.rest.items ≡ length c.next.new.self.rest.items + 1 = ap (λ (l : List (Exit × List ℕ)). length l) next ∙ (omega arith) in
+    record {
+      may = (subst (AllMayLeaveBy c.args.hook.now) next c.loop-exit.invariant.may).1;
+      room = c.leave.ensures.room (length c.next.new.self.rest.items) (subst (λ (k : ℕ). HasRoomToLeave c.args.at k c.loop-exit.state) more c.loop-exit.invariant.room);
+      numbers = λ k H. c.leave.ensures.numbers (k + length c.next.new.self.rest.items)
+          (subst (λ (j : ℕ). HasNumbers j c.loop-exit.state.pending.tally) (let e : k + length c.loop-exit.exit-iterator.rest.items ≡ k + length c.next.new.self.rest.items + 1 = omega arith in e) (c.loop-exit.invariant.numbers k H));
+      graph = c.leave.ensures.graph ∙ c.loop-exit.invariant.graph;
+      queues = c.leave.ensures.queues ∙ c.loop-exit.invariant.queues;
+      stands = λ a S.
+          let r = c.loop-exit.invariant.stands a S in (
+            leave r.0 c.args.at c.args.stamp c.in-Some.exit (name_or_empty c.args.hook.now) c.in-Some.packet,
+            c.leave.ensures.stands (in_world a r.0) r.1,
+            ap (λ (l : List (Exit × List ℕ)). change_all c.args.at c.args.stamp r.0 (exits (name_or_empty c.args.hook.now) l)) (sym next) ∙ r.2,
+          );
+    }
+
+pub returns-clause-numbers : goal.returns-clause-numbers
+returns-clause-numbers g c = λ k H.
+    let none : length c.loop-exit.exit-iterator.rest.items ≡ 0 = search rules in
+    subst (λ (j : ℕ). HasNumbers j c.loop-exit.state.pending.tally) (let e : k + length c.loop-exit.exit-iterator.rest.items ≡ k = omega arith in e) (c.loop-exit.invariant.numbers k H)

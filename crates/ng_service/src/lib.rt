@@ -1,0 +1,16 @@
+//! What an outcome does: the packet that a node's plan was evaluated for, and the writer that a node's box worked on.
+#![tactic(auto)]
+
+mod conclusion;
+mod delivery;
+mod follower;
+mod leaving;
+mod own;
+mod parts;
+mod reading;
+mod room;
+mod writing;
+
+pub use own::apply_own;
+pub use reading::apply_read;
+pub use writing::apply_write;

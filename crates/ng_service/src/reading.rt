@@ -1,0 +1,46 @@
+// A packet at a kind that reads.
+ghost use Rattle.std.specs.Prelude.{◌≡◌, true, IfErr, OnErr, OnOk};
+ghost use Rattle.ng_machine.specs.LowRun.{IsLow};
+ghost use Rattle.ng_machine.specs.Run.{RunState};
+ghost use Rattle.ng_machine.specs.World.{NodeRecord};
+ghost use Rattle.ng_step.specs.Applied.{IsAtNode, applied_from};
+ghost use Rattle.ng_topology.specs.Topology.{is_home};
+ghost use Rattle.ng_world.specs.Stands.{Stands};
+ghost use Rattle.ng_service.specs.Work.{IsReadAt};
+
+use crate::conclusion::{conclude, is_short, target};
+use crate::parts::{absorb, finish};
+use crate::room::make_room;
+use ng_machine::{Item, Outcome};
+use ng_node::Node;
+use ng_world::State;
+use std::alloc::Global;
+
+/// Applies a packet of a kind that reads: what its plan made of it comes about. Its node's box is at home.
+///
+/// # Errors
+/// The item and the outcome where memory ran out, and for nothing else; nothing but room changed.
+pub fn apply_read<B: Node>(
+    alloc: Global,
+    state: &mut State<B>,
+    item: Item,
+    outcome: Outcome,
+) -> Result<(), (Item, Outcome)>
+    requires work { (a : RunState) × (node : NodeRecord) × Stands state.old a × IsAtNode a item node × IsLow a.world × IsReadAt item node outcome }
+    requires home { is_home state.old.graph item.to ≡ true }
+    ensures applied { OnOk result ((a : RunState) (node : NodeRecord) → Stands state.old a → IsAtNode a item node → IsLow a.world
+        → IsReadAt item node outcome → Stands state.new (applied_from a item)) }
+    ensures err { OnErr result ((a : RunState) → Stands state.old a → Stands state.new a) }
+    ensures back { IfErr result (λ it. it ≡ (item, outcome)) }
+{
+    if !is_short(&outcome.answer) {
+        return Err((item, outcome));
+    }
+    let Ok(()) = make_room(state, item.to, &outcome, target(&item, &outcome)) else {
+        return Err((item, outcome));
+    };
+    finish(state, &item);
+    absorb(state, item.to, &outcome.counts);
+    conclude(alloc, state, &item, outcome);
+    Ok(())
+}

@@ -1,0 +1,50 @@
+// A writer that a node's box worked on.
+ghost use Rattle.std.specs.Prelude.{◌≡◌, IfErr, OnErr, OnOk};
+ghost use Rattle.ng_machine.specs.LowRun.{IsLow};
+ghost use Rattle.ng_machine.specs.Run.{RunState};
+ghost use Rattle.ng_machine.specs.World.{NodeRecord};
+ghost use Rattle.ng_step.specs.Applied.{IsAtNode, applied_from};
+ghost use Rattle.ng_world.specs.Stands.{Stands};
+ghost use Rattle.ng_service.specs.Work.{IsWrittenAt};
+
+use crate::conclusion::{conclude, is_short, target};
+use crate::parts::{bring_home, finish};
+use crate::room::make_room;
+use ng_machine::{Item, Outcome};
+use ng_node::Node;
+use ng_world::State;
+use std::alloc::Global;
+
+/// Applies a writer that the node's box worked on: the box comes home, and what the outcome says comes about. A message of the
+/// type that is refused is told and changes nothing.
+///
+/// # Errors
+/// The item, the box and the outcome where memory ran out, and for nothing else; nothing but room changed.
+pub fn apply_write<B: Node>(
+    alloc: Global,
+    state: &mut State<B>,
+    item: Item,
+    node: B,
+    outcome: Outcome,
+) -> Result<(), (Item, B, Outcome)>
+    requires work { (a : RunState) × (was : NodeRecord) × Stands state.old a × IsAtNode a item was × IsLow a.world
+        × IsWrittenAt item was (B.state node) outcome }
+    ensures applied { OnOk result ((a : RunState) (was : NodeRecord) → Stands state.old a → IsAtNode a item was → IsLow a.world
+        → IsWrittenAt item was (B.state node) outcome → Stands state.new (applied_from a item)) }
+    ensures err { OnErr result ((a : RunState) → Stands state.old a → Stands state.new a) }
+    ensures back { IfErr result (λ it. it ≡ (item, node, outcome)) }
+{
+    if !is_short(&outcome.answer) {
+        return Err((item, node, outcome));
+    }
+    let Ok(plan) = node.plan(alloc) else {
+        return Err((item, node, outcome));
+    };
+    let Ok(()) = make_room(state, item.to, &outcome, target(&item, &outcome)) else {
+        return Err((item, node, outcome));
+    };
+    bring_home(state, item.to, node, plan);
+    finish(state, &item);
+    conclude(alloc, state, &item, outcome);
+    Ok(())
+}
