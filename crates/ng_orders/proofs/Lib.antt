@@ -1,0 +1,13 @@
+pub mod ChangedNodes
+pub mod ByLink
+pub mod Stepping
+pub mod CutNames
+pub mod Sprouted
+pub mod Tables
+pub mod LateLinks
+pub mod Lists
+pub mod Finding
+pub mod Unless
+pub mod Told
+pub mod InsideSteps
+pub mod Classed
