@@ -1,0 +1,9 @@
+pub mod Finding
+pub mod Leads
+pub mod Numbers
+pub mod Results
+pub mod Rows
+pub mod Ticks
+pub mod Rooms
+pub mod Ports
+pub mod Names
