@@ -12,8 +12,9 @@ mod tests;
 mod text;
 mod told;
 
+pub use line::put_line;
 pub use port::print_port;
 pub use stop::PrintStop;
 pub use summary::print_summary;
 pub use text::print_text;
-pub use told::print_told;
+pub use told::{print_frame, print_line, print_refused, print_told};

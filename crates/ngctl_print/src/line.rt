@@ -8,7 +8,7 @@ use ng_outside::{Sink, put_all};
 ///
 /// # Errors
 /// `Fault` where the sink failed.
-pub(crate) fn put_line<O: Sink>(out: &mut O, line: &[u8]) -> Result<(), PrintStop>
+pub fn put_line<O: Sink>(out: &mut O, line: &[u8]) -> Result<(), PrintStop>
     ensures { Prints (O.contents out.old) (O.contents out.new) (O.faults out.old) (O.faults out.new) result line.now }
 {
     put_all(out, line)?;

@@ -56,14 +56,22 @@ fn frame_line(alloc: Global, hook: &Name) -> Result<String, AllocError>
     format!(in alloc; "data on {hook}:\n")
 }
 
-fn print_line<O: Sink>(alloc: Global, line: &[u8], out: &mut O) -> Result<(), PrintStop>
+/// Puts the line of a command that was fed, behind `+ `.
+///
+/// # Errors
+/// `Fault` where the sink failed, `NoMemory` for want of memory. A front of the line was put then.
+pub fn print_line<O: Sink>(alloc: Global, line: &[u8], out: &mut O) -> Result<(), PrintStop>
     ensures { Prints (O.contents out.old) (O.contents out.new) (O.faults out.old) (O.faults out.new) result (command_line line.now) }
 {
     let text = command_line(alloc, line)?;
     put_line(out, text.as_slice())
 }
 
-fn print_refused<O: Sink>(
+/// Puts the error of a command that was refused: its number, its text, and the words where there are any.
+///
+/// # Errors
+/// `Fault` where the sink failed, `NoMemory` for want of memory. A front of the line was put then.
+pub fn print_refused<O: Sink>(
     alloc: Global,
     errno: Errno,
     why: &[u8],
@@ -75,7 +83,12 @@ fn print_refused<O: Sink>(
     put_line(out, text.as_slice())
 }
 
-fn print_frame<O: Sink>(
+/// Puts a packet that reached the socket: the hook that it came by, and the dump of its bytes. It has at
+/// most 262,144 bytes, as its offsets have five digits.
+///
+/// # Errors
+/// `Fault` where the sink failed, `NoMemory` for want of memory. A front of the text was put then.
+pub fn print_frame<O: Sink>(
     alloc: Global,
     hook: &Name,
     packet: &[u8],

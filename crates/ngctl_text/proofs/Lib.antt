@@ -1,0 +1,3 @@
+pub mod LineByLine
+pub mod Entries
+pub mod InOrder

@@ -1,0 +1,6 @@
+pub mod Commands
+pub mod Help
+pub mod Answers
+pub mod Told
+pub mod Text
+pub mod Captures

@@ -1,0 +1,21 @@
+//! The whole text of a run, put into a sink line by line, and the captures that leave.
+#![tactic(auto)]
+
+mod answers;
+mod captures;
+mod commands;
+mod help;
+mod lines;
+mod printable;
+mod report;
+#[cfg(test)]
+mod tests;
+mod text;
+mod told;
+
+pub use captures::{capture_text, put_capture};
+pub use ngctl_print::{PrintStop, print_port, print_summary};
+pub use printable::is_printable;
+pub use report::{PortReport, Summary};
+pub use text::print_text;
+pub use told::print_told;
