@@ -1,0 +1,10 @@
+pub mod Lengths
+pub mod Counted
+pub mod Numbered
+pub mod Fitting
+pub mod Timed
+pub mod Worlds
+pub mod OfScript
+pub mod Captured
+pub mod FitLines
+pub mod Inputs
