@@ -1,0 +1,10 @@
+pub mod OpenStories
+pub mod Working
+pub mod PutBack
+pub mod Stopped
+pub mod PortCounts
+pub mod Mapped
+pub mod KeptPorts
+pub mod FedStories
+pub mod Beginnings
+pub mod Starting

@@ -1,0 +1,28 @@
+-- What a core's type keeps: a sound story over inputs that are few enough, fields that stand for its run, and a journal with room
+-- for the end of all that is taken and for a Stop.
+use Rattle.std.specs.Prelude.{◌≡◌, ◌+◌, ◌≤◌, vec_len, vec_capacity, None}
+use Rattle.ng_machine.specs.LowRun.{IsModest}
+use Rattle.ng_story.specs.SoundStory.{IsSoundStory}
+use Rattle.ng_story.specs.Story.{run_state_of}
+use Rattle.ng_world.specs.Stands.{Stands}
+use Rattle.ng_seats.specs.CoreStory.{CoreStory, setting_of, story}
+use Rattle.ng_seats.specs.declared.machine.Core.TheInside.{Inside}
+
+abbrev pub story_in : {B : Type 0} → Inside B → CoreStory
+story_in c = record {
+  own = c.own;
+  ports = c.ports.items;
+  stock = c.stock.items;
+  budget = c.budget;
+  seats = c.seats;
+  inputs = c.inputs.items;
+  journal = c.journal.items;
+  gave_up = c.gave_up.items;
+  closed = c.closed;
+}
+
+pub record IsKept {B : Type 0} (c : Inside B) : Type 0 where
+  pub sound : IsSoundStory (story (story_in c))
+  pub modest : IsModest (setting_of (story_in c))
+  pub stands : Stands c.state (run_state_of (story (story_in c)))
+  pub room : c.closed ≡ None → vec_len c.journal + (c.state.pending.out + 1) ≤ vec_capacity c.journal

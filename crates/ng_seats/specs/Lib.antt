@@ -1,0 +1,6 @@
+pub mod Calls
+pub mod CoreStory
+pub mod Beginning
+pub mod Kept
+pub mod Stops
+pub mod Away

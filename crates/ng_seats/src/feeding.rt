@@ -1,0 +1,64 @@
+// An input is fed.
+ghost use Rattle.std.specs.Prelude.{◌≡◌, ◌+◌, ◌^◌, ◌<◌, ◌≤◌, [], ◌∷◌, false, length, vec_len, vec_capacity, None, OnOk, OnErr, IfErr};
+ghost use Rattle.ng_base.specs.declared.event.Event.TheVariants.{Feed};
+ghost use Rattle.ng_machine.specs.Refusal.{feed_refusal};
+ghost use Rattle.ng_seats.specs.CoreStory.{story};
+ghost use Rattle.ng_seats.specs.Calls.{IsFeedFault};
+ghost use Rattle.ng_story.specs.DeskLaws.{fed_desk};
+ghost use Rattle.ng_story.specs.Desks.{Others, story_desk};
+ghost use Rattle.ng_story.specs.Story.{AreFitFor, has_ended, with_event, with_input, world_of};
+
+use crate::{Core, FeedFault};
+use ng_base::{Event, NoMemory};
+use ng_intake::feed_input;
+use ng_machine::Input;
+use ng_node::Node;
+use std::alloc::Global;
+
+// Room for an input more, and for its event beside those that the taken items will have.
+fn make_room(inputs: &mut Vec<Input>, journal: &mut Vec<Event>, out: u64) -> Result<(), NoMemory>
+    requires { vec_len journal.old + (out + 1) ≤ vec_capacity journal.old }
+    ensures few { length inputs.old.items < 2 ^ 63 }
+    ensures inputs { inputs.new.items ≡ inputs.old.items }
+    ensures journal { journal.new.items ≡ journal.old.items }
+    ensures same { vec_len journal.new ≡ vec_len journal.old }
+    ensures more { vec_capacity journal.old ≤ vec_capacity journal.new }
+    ensures room { OnOk result ((vec_len inputs.new < vec_capacity inputs.new) × (vec_len journal.new + (out + 2) ≤ vec_capacity journal.new)) }
+{
+    inputs.reserve(1)?;
+    journal.reserve(out as usize + 2)?;
+    Ok(())
+}
+
+impl<B: Node> Core<B> {
+    /// Feeds an input, as the seat 0.
+    ///
+    /// # Errors
+    /// `Not` with the first cause that holds: as many items were applied as may be, the last command isn't settled, a late one
+    /// while something is pending, too many packets wait, or a tick does; or `NoMemory`. The input comes back, and nothing
+    /// changed.
+    pub fn feed(&mut self, alloc: Global, input: Input) -> Result<(), (FeedFault, Input)>
+        requires running { has_ended (story self.old) ≡ false }
+        requires fits { AreFitFor (story self.old) (input ∷ []) }
+        ensures fed { OnOk result (story self.new ≡ with_event (with_input (story self.old) input) Feed) }
+        ensures may { OnOk result (feed_refusal self.old.budget (world_of (story self.old)) input ≡ None) }
+        ensures cause { IfErr result (λ e. IsFeedFault (feed_refusal self.old.budget (world_of (story self.old)) input) e.0) }
+        ensures back { IfErr result (λ e. e.1 ≡ input) }
+        ensures own { OnOk result (story_desk (story self.new) 0 ≡ fed_desk (story self.old) input) }
+        ensures err { OnErr result (self.new ≡ self.old) }
+        ensures others { Others 0 (story self.old) (story self.new) }
+    {
+        if let Some(why) = self.state.pending.refusal(self.budget, &input) {
+            return Err((FeedFault::Not(why), input));
+        }
+        let Ok(()) = make_room(&mut self.inputs, &mut self.journal, self.state.pending.out) else {
+            return Err((FeedFault::NoMemory, input));
+        };
+        let Ok(()) = feed_input(alloc, &mut self.state, &input) else {
+            return Err((FeedFault::NoMemory, input));
+        };
+        self.inputs.push_reserved(input);
+        self.journal.push_reserved(Event::Feed);
+        Ok(())
+    }
+}

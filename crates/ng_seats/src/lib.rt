@@ -1,0 +1,15 @@
+//! The core: the machine's world in use by seats. Every call is an event of its journal, whatever seats call it in whatever
+//! order, and its type keeps the journal orderly.
+#![tactic(auto)]
+
+mod ending;
+mod fault;
+mod feeding;
+mod machine;
+mod making;
+mod showing;
+mod stopping;
+mod taking;
+
+pub use fault::FeedFault;
+pub use machine::Core;

@@ -1,0 +1,51 @@
+// The core, and what is known of one.
+ghost use Rattle.std.specs.Prelude.{◌≡◌, ◌&&◌, true};
+
+use ng_base::{Event, Kind, Name};
+use ng_machine::Input;
+use ng_node::Node;
+use ng_story::Desk;
+use ng_turn::Desked;
+use ng_world::State;
+use std::marker::Model;
+
+/// The core. A contract sees its story: what it began with and was fed, its journal, who gave up, and how it was closed.
+///
+/// Its type keeps that the journal is orderly over every list of inputs that begins with those fed, and that the world, as it
+/// is kept, is that of the journal's run.
+#[derive(Drop)]
+pub struct Core<B: Node> {
+    pub(crate) own: Name,
+    pub(crate) ports: Vec<Name>,
+    pub(crate) stock: Vec<Kind>,
+    pub(crate) budget: u64,
+    pub(crate) seats: u32,
+    pub(crate) inputs: Vec<Input>,
+    pub(crate) journal: Vec<Event>,
+    pub(crate) gave_up: Vec<bool>,
+    pub(crate) closed: Option<u64>,
+    pub(crate) state: State<B>,
+}
+
+impl<B: Node> Model for Core<B> {
+    ghost use Rattle.ng_seats.specs.CoreStory.{CoreStory};
+    ghost use Rattle.ng_seats.specs.Kept.{story_in, IsKept};
+
+    ghost Value = { CoreStory };
+
+    ghost view = { story_in };
+
+    ghost invariant = { IsKept };
+}
+
+/// A desk is what only its seat's holding of the core may change.
+impl<B: Node> Desked for Core<B> {
+    type Desk = Desk;
+
+    ghost use Rattle.ng_story.specs.Desks.{story_desk, no_desk};
+    ghost use Rattle.ng_seats.specs.CoreStory.{story};
+
+    ghost desk = { λ c seat. story_desk (story c) seat };
+
+    ghost blank = { no_desk };
+}
