@@ -1,4 +1,3 @@
-pub mod HookLemmas
 pub mod NodeLemmas
 pub mod PlanLemmas
 pub mod StockLemmas
@@ -8,3 +7,4 @@ pub mod SproutLemmas
 pub mod WalkLemmas
 pub mod WorldLemmas
 pub mod SoundLemmas
+pub mod CutLemmas

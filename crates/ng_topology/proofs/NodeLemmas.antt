@@ -20,7 +20,7 @@ use Rattle.ng_machine.specs.Case.{absorb}
 use Rattle.ng_machine.proofs.Owed.{made_kind, cut_kind, absorb_way}
 use Rattle.std.proofs.lemmas.List.Elements.{All-push}
 use Rattle.ng_topology.proofs.StockLemmas.{blank_kind}
-use Rattle.ng_topology.specs.Hooks.{without_named, is_linked}
+use Rattle.ng_hooks.specs.Hooks.{without_named, is_linked}
 use Rattle.ng_topology.specs.NodeEntry.{IsConsistent, AcceptsHook}
 use Rattle.ng_topology.specs.Topology.{Topology, MayGetHook}
 
@@ -48,7 +48,7 @@ pub names_push : (hooks : List Hook) (names : List (List ℕ)) (hook : Hook) →
 names_push [] names hook is = rw (← is) refl
 names_push (x ∷ hooks) names hook is = rw (← is) (ap (λ (l : List (List ℕ)). x.name ∷ l) (names_push hooks (map (λ h. h.name) hooks) hook refl))
 
-names_filter : (name : List ℕ) (hooks : List Hook) → map (λ h. h.name) (without_named name hooks) ≡ without_name (map (λ h. h.name) hooks) name
+pub names_filter : (name : List ℕ) (hooks : List Hook) → map (λ h. h.name) (without_named name hooks) ≡ without_name (map (λ h. h.name) hooks) name
 names_filter name [] = refl
 names_filter name (x ∷ hooks) = elim (cases_Bool (bytes_eq x.name name)) [
   | inl is ↦ rw is (names_filter name hooks)

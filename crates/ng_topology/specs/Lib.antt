@@ -1,4 +1,3 @@
-pub mod Hooks
 pub mod NodeEntry
 pub mod FirstOfKind
 pub mod Topology

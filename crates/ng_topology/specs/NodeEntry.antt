@@ -1,11 +1,11 @@
 -- A node as the graph holds it: its record, and whether its box is at home. While the box is lent the record has what the box
 -- kept when it went.
-use Rattle.std.specs.Prelude.{◌≡◌, ℕ, Bool, true, false, List, map, Option, Some, None}
+use Rattle.std.specs.Prelude.{◌≡◌, ℕ, Bool, true, false, List, [], map, Option, Some, None}
 use Rattle.ng_base.specs.declared.kind.Kind.{Kind}
 use Rattle.ng_machine.specs.declared.hook.Hook.{Hook}
 use Rattle.ng_machine.specs.declared.plan.Plan.{Plan}
 use Rattle.ng_machine.specs.Rules.{accepts_hook}
-use Rattle.ng_machine.specs.State.{State, kind_of, way_of}
+use Rattle.ng_machine.specs.State.{State, kept_without_hooks, kind_of, way_of}
 use Rattle.ng_machine.specs.World.{NodeRecord, kind_at, has_hook}
 
 pub record NodeEntry : Type 0 where
@@ -25,6 +25,10 @@ pub record IsConsistent (its_kind : Kind) (state : State) (its_hooks : List Hook
   pub kind : kind_of state ≡ its_kind
   pub hooks : map (λ h. h.name) its_hooks ≡ state.hooks
   pub planned : plan ≡ way_of state
+
+-- a box of which all hooks are cut
+abbrev pub without_all : State → State
+without_all state = record { hooks = []; kept = kept_without_hooks state.kept state.hooks }
 
 -- the node is another; the box stays where it is
 abbrev pub with_node : NodeEntry → NodeRecord → NodeEntry

@@ -6,13 +6,14 @@ ghost use Rattle.ng_machine.specs.Errors.{eexist};
 ghost use Rattle.ng_machine.specs.Case.{absorb};
 ghost use Rattle.ng_machine.specs.Rules.{may_of};
 ghost use Rattle.ng_machine.specs.State.{State, kind_of, blank_of, way_of};
-ghost use Rattle.ng_machine.specs.World.{is_named, linked_hook, kind_at, state_of, has_hook, hook_of, with_hook, without_hook, with_changed_hook, settle_hook, bind_to, blank_node};
-ghost use Rattle.ng_topology.specs.NodeEntry.{AcceptsHook, entry_as, with_node};
+ghost use Rattle.ng_machine.specs.World.{is_named, linked_hook, kind_at, state_of, has_hook, hook_of, with_hook, without_hook, without_hooks, with_changed_hook, settle_hook, bind_to, blank_node};
+ghost use Rattle.ng_hooks.specs.Hooks.{NamesDiffer};
+ghost use Rattle.ng_topology.specs.NodeEntry.{AcceptsHook, entry_as, with_node, without_all};
 ghost use Rattle.ng_topology.specs.Topology.{FitsNode, with_kept};
 
-use crate::Hooks;
 use crate::plans::hook_and_plan;
 use ng_base::{Errno, Kind, LinkId, Name, NoMemory};
+use ng_hooks::Hooks;
 use ng_machine::{Counts, End, Hook};
 use ng_node::Node;
 use ng_plan::Plan;
@@ -48,6 +49,17 @@ impl<B: Node> Model for Entry<B> {
     ghost view = { λ e. entry_as e.name (state_in B.state e.home e.was.value) e.hooks (is_some e.home) };
 
     ghost invariant = { λ e. IsConsistent e.kind (state_in B.state e.home e.was.value) e.hooks (option_map arc_value e.plan) };
+}
+
+// Cuts the hooks of a box, one after another: these are all that it has.
+fn cut_all<B: Node>(node: &mut B, hooks: &[Hook])
+    requires names { map (λ h. h.name) hooks.now ≡ (B.state node.old).hooks }
+    requires differ { NamesDiffer hooks.now }
+    ensures { B.state node.new ≡ without_all (B.state node.old) }
+{
+    for hook in hooks {
+        node.cut(&hook.name);
+    }
 }
 
 impl<B: Node> Entry<B> {
@@ -174,7 +186,7 @@ impl<B: Node> Entry<B> {
     ///
     /// # Errors
     /// `NoMemory` where memory ran out, and for nothing else; the node is then as before.
-    #[tactic(auto, using(crate::proofs::HookLemmas::added_removed, crate::proofs::NodeLemmas::lacks_hook, crate::proofs::NodeLemmas::lacks_names, crate::proofs::NodeLemmas::takes_may, crate::proofs::NodeLemmas::names_push))]
+    #[tactic(auto, using(ng_hooks::proofs::HookLemmas::added_removed, crate::proofs::NodeLemmas::lacks_hook, crate::proofs::NodeLemmas::lacks_names, crate::proofs::NodeLemmas::takes_may, crate::proofs::NodeLemmas::names_push))]
     pub fn add(&mut self, alloc: Global, hook: Hook) -> Result<Option<Arc<Plan>>, NoMemory>
         requires home { self.old.home ≡ true }
         requires takes { AcceptsHook self.old.node hook.name }
@@ -222,6 +234,20 @@ impl<B: Node> Entry<B> {
             self.plan = next;
         }
         is_linked
+    }
+
+    /// Takes all hooks away. Its box is at home, and `next` is the plan that the node has then.
+    pub fn clear(&mut self, next: Option<Arc<Plan>>)
+        requires home { self.old.home ≡ true }
+        requires next { option_map arc_value next ≡ way_of (state_of (without_hooks self.old.node)) }
+        ensures { self.new ≡ with_node self.old (without_hooks self.old.node) }
+    {
+        let Some(node) = &mut self.home else {
+            unreachable!()
+        };
+        cut_all(node, self.hooks.as_slice());
+        self.hooks.clear();
+        self.plan = next;
     }
 
     /// Lets packets out of the hook of that name, if there is one with that link: whether there was.

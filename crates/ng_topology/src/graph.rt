@@ -7,14 +7,15 @@ ghost use Rattle.ng_machine.specs.Errors.{enfile, eexist};
 ghost use Rattle.ng_machine.specs.Rules.{accepts_hook, may_of};
 ghost use Rattle.ng_machine.specs.State.{kind_of, blank_of, way_of};
 ghost use Rattle.ng_machine.specs.Stock.{has_kind};
-ghost use Rattle.ng_machine.specs.World.{World, NodeRecord, node_in, node_at, kind_at, state_of, hook_at, has_hook, find_named, node_id, link_id, new_hook, with_hook, without_hook, with_changed_hook, settle_hook, bind_to, blank_node};
+ghost use Rattle.ng_machine.specs.World.{World, NodeRecord, node_in, node_at, kind_at, state_of, hook_at, has_hook, find_named, node_id, link_id, new_hook, with_hook, without_hook, without_hooks, with_changed_hook, settle_hook, bind_to, blank_node};
 ghost use Rattle.ng_topology.specs.Topology.{empty_graph, linked_hook_at, name_of, is_end, is_free, IsThere, IsAtHome, IsSound, FitsNodeAt, MayGetHook, change_node, make_node, retire_node, use_link, lend_box, give_box, sprout_node, world_of, address_of};
 ghost use Rattle.ng_machine.specs.Walk.{if_there, head_at, peer_of, follow, walk};
 ghost use Rattle.ng_topology.specs.declared.graph.MakeFault.TheVariants.{Used};
 
 use crate::names::{enter_name, forget_name};
-use crate::{Entry, Hooks, Places, Stock};
+use crate::{Entry, Places, Stock};
 use ng_base::{Errno, Kind, LinkId, Name, NoMemory, NodeId};
+use ng_hooks::Hooks;
 use ng_machine::{Counts, End, Hook};
 use ng_node::Node;
 use ng_path::{Head, Path};
@@ -379,6 +380,15 @@ impl<B: Node> Graph<B> {
         ensures after { self.new ≡ (if result then change_node self.old at.now.node (λ node. without_hook node at.now.hook) else self.old) }
     {
         self.places.leave(at.node, &at.hook, link, next)
+    }
+
+    /// Takes all hooks away from a node, whose box is at home. `next` is the plan that the node has then. It takes no memory.
+    pub fn clear(&mut self, id: NodeId, next: Option<Arc<Plan>>)
+        requires home { IsAtHome self.old id }
+        requires next { (node : NodeRecord) → node_in self.old.nodes id ≡ Some node → option_map arc_value next ≡ way_of (state_of (without_hooks node)) }
+        ensures { self.new ≡ change_node self.old id without_hooks }
+    {
+        self.places.clear(id, next);
     }
 
     /// Adds a hook to a node, whose box is at home and which may get it, joined to a peer by that link.

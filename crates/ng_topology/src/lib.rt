@@ -3,7 +3,6 @@
 
 mod entry;
 mod graph;
-mod hooks;
 mod laws;
 mod names;
 mod places;
@@ -14,7 +13,6 @@ mod tests;
 
 pub use entry::Entry;
 pub use graph::{Graph, MakeFault};
-pub use hooks::Hooks;
 pub use laws::{
     gives_are, lends_are, links_are, makes_are, retires_are, sets_are, soundness_stays, sprouts_are,
 };

@@ -5,7 +5,7 @@ ghost use Rattle.std.specs.Option.{option_map};
 ghost use Rattle.ng_base.specs.declared.ids.NodeId.{NodeId};
 ghost use Rattle.ng_machine.specs.Case.{absorb};
 ghost use Rattle.ng_machine.specs.State.{way_of};
-ghost use Rattle.ng_machine.specs.World.{NodeRecord, node_in, state_of, with_hook, without_hook, with_changed_hook, settle_hook, bind_to};
+ghost use Rattle.ng_machine.specs.World.{NodeRecord, node_in, state_of, with_hook, without_hook, without_hooks, with_changed_hook, settle_hook, bind_to};
 ghost use Rattle.ng_topology.specs.NodeEntry.{NodeEntry, AcceptsHook};
 ghost use Rattle.ng_topology.specs.Topology.{FitsNode, change_at, linked_hook_at, with_kept};
 
@@ -134,6 +134,19 @@ impl<B: Node> Places<B> {
     {
         match &mut self.entries[id.0 as usize] {
             Some(entry) => entry.leave(name, link, next),
+            None => unreachable!(),
+        }
+    }
+
+    /// Takes all hooks away from a node whose box is at home. `next` is the plan that the node has then.
+    #[tactic(auto, using(crate::proofs::PlaceLemmas::home_inside))]
+    pub fn clear(&mut self, id: NodeId, next: Option<Arc<Plan>>)
+        requires home { slice_index_or self.old.home id.0 false ≡ true }
+        requires next { (node : NodeRecord) → node_in self.old.nodes id ≡ Some node → option_map arc_value next ≡ way_of (state_of (without_hooks node)) }
+        ensures { self.new ≡ record self.old { nodes = change_at self.old.nodes id without_hooks } }
+    {
+        match &mut self.entries[id.0 as usize] {
+            Some(entry) => entry.clear(next),
             None => unreachable!(),
         }
     }

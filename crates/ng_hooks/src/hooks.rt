@@ -6,7 +6,7 @@ ghost use Rattle.std.specs.Option.{option_copied};
 ghost use Rattle.std.specs.Ordering.{nat_cmp};
 ghost use Rattle.std.specs.List.{position_from};
 ghost use Rattle.ng_machine.specs.World.{is_named, change_hook, settle_hook, bind_to};
-ghost use Rattle.ng_topology.specs.Hooks.{is_linked, without_named};
+ghost use Rattle.ng_hooks.specs.Hooks.{NamesDiffer, is_linked, without_named};
 
 use ng_base::{LinkId, Name, NoMemory};
 use ng_machine::{End, Hook};
@@ -27,7 +27,7 @@ pub struct Hooks {
 impl Model for Hooks {
     ghost use Rattle.std.specs.Prelude.{List};
     ghost use Rattle.ng_machine.specs.declared.hook.Hook.{Hook};
-    ghost use Rattle.ng_topology.specs.Hooks.{AreConsistent};
+    ghost use Rattle.ng_hooks.specs.Hooks.{AreConsistent};
 
     ghost Value = { List Hook };
 
@@ -104,9 +104,10 @@ impl Hooks {
         Ok(hooks)
     }
 
-    /// The hooks, to be looked at.
+    /// The hooks, to be looked at: no two have one name.
     pub fn as_slice(&self) -> &[Hook]
-        ensures { result.now ≡ self.now }
+        ensures hooks { result.now ≡ self.now }
+        ensures differ { NamesDiffer self.now }
     {
         self.items.as_slice()
     }
@@ -159,6 +160,14 @@ impl Hooks {
             let _hook = self.items.remove(place);
             remove_in(&mut self.index, name);
         }
+    }
+
+    /// Takes all hooks away.
+    pub fn clear(&mut self)
+        ensures { self.new ≡ [] }
+    {
+        self.items.clear();
+        self.index.clear();
     }
 
     /// Lets packets out of the hook of that name, if there is one.

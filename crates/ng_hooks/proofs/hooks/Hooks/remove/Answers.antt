@@ -2,8 +2,8 @@
 use Rattle.std.proofs.Common.{◌≡◌, ◌<◌, ◌∙◌, length, sym, arith, Some, None}
 use Rattle.std.specs.List.{position_from}
 use Rattle.ng_machine.specs.World.{is_named}
-use Rattle.ng_topology.proofs.HookLemmas.{found_inside, consistent_remove, removed, none_removed}
-use Rattle.ng_topology.proofs.hooks.Hooks.remove.Goals as goal
+use Rattle.ng_hooks.proofs.HookLemmas.{found_inside, consistent_remove, removed, none_removed}
+use Rattle.ng_hooks.proofs.hooks.Hooks.remove.Goals as goal
 
 pub remove-hook-requires : goal.remove-hook-requires
 remove-hook-requires c =

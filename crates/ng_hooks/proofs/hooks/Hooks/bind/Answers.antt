@@ -2,8 +2,8 @@
 use Rattle.std.proofs.Common.{◌≡◌, ◌<◌, ◌∙◌, length, sym, ap, set, refl, arith, Some, None}
 use Rattle.std.specs.List.{position_from}
 use Rattle.ng_machine.specs.World.{is_named, bind_to}
-use Rattle.ng_topology.proofs.HookLemmas.{found_inside, consistent_change, none_change, change_at_place, indexed_at}
-use Rattle.ng_topology.proofs.hooks.Hooks.bind.Goals as goal
+use Rattle.ng_hooks.proofs.HookLemmas.{found_inside, consistent_change, none_change, change_at_place, indexed_at}
+use Rattle.ng_hooks.proofs.hooks.Hooks.bind.Goals as goal
 
 pub index-requires : goal.index-requires
 index-requires c =

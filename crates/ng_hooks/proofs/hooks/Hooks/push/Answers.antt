@@ -1,8 +1,8 @@
 -- What is at the place of a name, and in the index under it.
 use Rattle.std.proofs.Common.{◌≡◌, ◌++◌, ◌∷◌, [], arith}
 use Rattle.std.proofs.lemmas.Grind.{common_steps}
-use Rattle.ng_topology.proofs.HookLemmas.{consistent_push}
-use Rattle.ng_topology.proofs.hooks.Hooks.push.Goals as goal
+use Rattle.ng_hooks.proofs.HookLemmas.{consistent_push}
+use Rattle.ng_hooks.proofs.hooks.Hooks.push.Goals as goal
 
 pub invariant_of-self-2 : goal.invariant_of-self-2
 invariant_of-self-2 c =

@@ -3,7 +3,7 @@ use Rattle.std.proofs.Common.{◌∙◌, ap, sym}
 use Rattle.ng_machine.specs.State.{State, kind_of}
 use Rattle.ng_machine.specs.World.{node_in}
 use Rattle.ng_topology.specs.Topology.{Topology}
-use Rattle.ng_topology.proofs.tests.walk_and_lend.Goals as goal
+use Rattle.ng_topology.proofs.tests.grow_and_lend.Goals as goal
 
 pub give-requires-clause-fits : goal.give-requires-clause-fits
 give-requires-clause-fits g c κs within = λ node there.

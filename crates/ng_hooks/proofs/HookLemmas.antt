@@ -13,7 +13,7 @@ use Rattle.std.proofs.lemmas.Slice.Eq.{bytes_eq-Decides}
 use Rattle.ng_base.specs.declared.ids.LinkId.{LinkId}
 use Rattle.ng_machine.specs.declared.hook.Hook.{Hook}
 use Rattle.ng_machine.specs.World.{is_named, change_hook}
-use Rattle.ng_topology.specs.Hooks.{NamesDiffer, IsIndexed, AreConsistent, is_linked, without_named}
+use Rattle.ng_hooks.specs.Hooks.{NamesDiffer, IsIndexed, AreConsistent, is_linked, without_named}
 
 -- THE PLACE OF A NAME
 
@@ -75,7 +75,7 @@ no_other name hook hooks differ is = let same : hook.name ≡ name = same_names 
 
 -- a list that lacks the name
 
-lacks_filter : (name : List ℕ) (hooks : List Hook) → find (is_named name) hooks ≡ None → without_named name hooks ≡ hooks
+pub lacks_filter : (name : List ℕ) (hooks : List Hook) → find (is_named name) hooks ≡ None → without_named name hooks ≡ hooks
 lacks_filter name [] none = refl
 lacks_filter name (hook ∷ hooks) none = elim (cases_Bool (is_named name hook)) [
   | inl is ↦ let same : Some hook ≡ None = rw is at none in absurd (cc same)

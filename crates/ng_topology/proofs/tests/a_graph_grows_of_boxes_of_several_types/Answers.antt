@@ -3,11 +3,11 @@ use Rattle.std.proofs.Common.{◌≡◌, ◌∙◌, ap, subst, sym, arith}
 use Rattle.ng_base.specs.declared.kind.Kind.TheVariants.{Echo, Hub}
 use Rattle.ng_machine.specs.State.{blank_of}
 use Rattle.ng_topology.proofs.NodeLemmas.{blank_push}
-use Rattle.ng_topology.proofs.tests.a_graph_has_boxes_of_several_types.OwnLists.{own-1, at-1-1, at-1-2}
-use Rattle.ng_topology.proofs.tests.a_graph_has_boxes_of_several_types.Goals as goal
+use Rattle.ng_topology.proofs.tests.a_graph_grows_of_boxes_of_several_types.OwnLists.{own-1, at-1-1, at-1-2}
+use Rattle.ng_topology.proofs.tests.a_graph_grows_of_boxes_of_several_types.Goals as goal
 
-pub walk_and_lend-requires-clause-blank : goal.walk_and_lend-requires-clause-blank
-walk_and_lend-requires-clause-blank g c κs =
+pub grow_and_lend-requires-clause-blank : goal.grow_and_lend-requires-clause-blank
+grow_and_lend-requires-clause-blank g c κs =
     let echo =
     subst (λ i. (y : (own-1.entry i).0.Denot) → (own-1.entry i).0.coded.code y ≡ (own-1.entry at-1-1).0.coded.code c.in_ok-new.field-0.value → (own-1.entry i).1.state y ≡ blank_of Echo) (sym c.into_dyn_box.ensures.1.index)
     (λ y same. ap (own-1.entry at-1-1).1.state ((own-1.entry at-1-1).0.coded.inj y c.in_ok-new.field-0.value same) ∙ ap (own-1.entry at-1-1).1.state c.in_ok-new.ensures.ok ∙ c.in_ok-blank_echo.ensures) _ c.into_dyn_box.ensures.1.codes in
