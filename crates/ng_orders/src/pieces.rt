@@ -16,7 +16,7 @@ use ng_step::{accept_at, refuse};
 use ng_world::State;
 use std::alloc::Global;
 
-/// A taken item is done; room for what is told stays.
+/// A taken item is done; room for further items and for what is told stays.
 pub fn finish<B: Node>(state: &mut State<B>, item: &Item)
     requires out { (a : RunState) × Stands state.old a × IsOutIn a item.now }
     requires leaves { MayLeave state.old.graph item.now }

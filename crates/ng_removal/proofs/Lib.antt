@@ -5,3 +5,4 @@ pub mod Others
 pub mod Waiting
 pub mod AskedPeers
 pub mod Bypassed
+pub mod Dropped

@@ -3,10 +3,11 @@ use Rattle.std.specs.Prelude.{[], ◌∷◌, ◌++◌, ℕ, List, Option, Some, 
 use Rattle.ng_base.specs.declared.ids.LinkId.{LinkId}
 use Rattle.ng_machine.specs.declared.item.Item.{Item}
 use Rattle.ng_machine.specs.declared.body.Body.TheVariants.{Leave}
+use Rattle.ng_machine.specs.declared.farewell.Farewell.{Farewell}
 use Rattle.ng_machine.specs.declared.hook.Hook.{Hook}
 use Rattle.ng_machine.specs.Change.{Accepts, Links, Notes, change, change_all}
 use Rattle.ng_machine.specs.Connect.{remove_peer_hook, rmhook}
-use Rattle.ng_machine.specs.Retire.{bypass, leave_steps, rebind_to, retiring, shut_down}
+use Rattle.ng_machine.specs.Retire.{bypass, farewell, leave_steps, rebind_to, retiring, shut_down}
 use Rattle.ng_machine.specs.Run.{RunState}
 use Rattle.ng_machine.specs.State.{State as NodeState}
 use Rattle.ng_machine.specs.World.{NodeRecord, World, hook_of, linked_hook, node_at}
@@ -31,6 +32,10 @@ goes item a node = leave_steps item.to node.hooks ++ retiring (world_at a item) 
 -- the order to shut down
 abbrev pub shuts_down : Item → Changes
 shuts_down item a node = shut_down (world_at a item) item node
+
+-- the node does this at a shutdown
+abbrev pub bids_farewell : Item → Farewell → Changes
+bids_farewell item how a node = farewell (world_at a item) item node how
 
 -- nothing of the item's node is taken but the item
 abbrev pub IsAlone : RunState → Item → Type 0

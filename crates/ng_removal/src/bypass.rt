@@ -1,6 +1,7 @@
 // A node goes and leaves the peers of two of its hooks joined to each other.
 ghost use Rattle.std.specs.Prelude.{◌≡◌, ℕ, ◌+◌, ◌<◌, ◌≤◌, ◌==◌, ◌||◌, not, false, length, OnOk, IfOk, IfErr, OnErr, Some};
 ghost use Rattle.ng_machine.specs.declared.body.Body.TheVariants.{Rebind};
+ghost use Rattle.ng_machine.specs.declared.farewell.Farewell.TheVariants.{Bypass};
 ghost use Rattle.ng_machine.specs.Change.{Accepts, change};
 ghost use Rattle.ng_machine.specs.Retire.{hooks_but, outward};
 ghost use Rattle.ng_machine.specs.Run.{RunState};
@@ -11,25 +12,27 @@ ghost use Rattle.ng_pending.specs.Room.{Spends};
 ghost use Rattle.ng_removal.specs.Drops.{HasRoomThere};
 ghost use Rattle.ng_pending.specs.Holds.{in_world};
 ghost use Rattle.ng_queue.specs.Queues.{spare_at};
-ghost use Rattle.ng_removal.specs.Removals.{MayRemove, Removes, bypasses, world_bypassed};
+ghost use Rattle.ng_removal.specs.Removals.{MayRemove, Removes, bypasses, bids_farewell, world_bypassed};
 ghost use Rattle.ng_tally.specs.Tally.{HasNumbers};
 ghost use Rattle.ng_tie.specs.TieLaws.{one};
 ghost use Rattle.ng_topology.specs.Topology.{IsAtHome, IsThere, use_link};
 ghost use Rattle.ng_world.specs.Stands.{IsStanding, Stands};
 
-use crate::ends::{finish, hook_of};
+use crate::ends::hook_of;
+use crate::going::apply_going;
 use crate::peers::{ask_peers, hooks_of, widen_peers};
 use crate::retiring::remove;
 use crate::room::widen_for_drops;
 use ng_base::{LinkId, Name, NoMemory, NodeId};
 use ng_machine::{Body, Hook, Item};
 use ng_node::Node;
+use ng_orders::finish;
 use ng_step::{accept_at, widen};
 use ng_world::State;
 use std::alloc::Global;
 
-/// The hook of that name, where it is joined to another node that is there.
-pub fn outward<B: Node>(state: &State<B>, at: NodeId, name: &Name) -> Option<Hook>
+// The hook of that name, where it is joined to another node that is there.
+fn outward<B: Node>(state: &State<B>, at: NodeId, name: &Name) -> Option<Hook>
     ensures { (w : World) (node : NodeRecord) → w.nodes ≡ state.now.graph.nodes → node_in state.now.graph.nodes at ≡ Some node → result ≡ outward w at (hook_of node name.now) }
 {
     let Some(hook) = hook_of(state, at, name) else {
@@ -132,12 +135,10 @@ fn rebind_both<B: Node>(state: &mut State<B>, item: &Item, first: &Hook, second:
     rebind(state, item, second, link, first);
 }
 
-/// A node goes, and the peers of two of its hooks, which are at other nodes, are joined to each other by a new link; each peer
-/// of another hook at another node is to take its end away: the node's box.
-///
-/// # Errors
-/// The item itself where memory ran out, and for nothing else; nothing but room changed.
-pub fn apply_bypass<B: Node>(
+// A node goes, and the peers of two of its hooks, which are at other nodes, are joined to each other by a new link; each peer
+// of another hook at another node is to take its end away: the node's box. An item comes back where memory ran out, and for
+// nothing else; nothing but room changed.
+fn apply_bypass<B: Node>(
     alloc: Global,
     state: &mut State<B>,
     item: Item,
@@ -170,4 +171,30 @@ pub fn apply_bypass<B: Node>(
     ask_peers(state, item.to, item.stamp, hooks);
     let node = remove(alloc, state, item.to, item.stamp);
     Ok(Some(node))
+}
+
+/// A node goes, and where the hooks of two names are joined to other nodes that are there, their peers are joined to each other;
+/// each peer of another hook at another node is to take its end away: the node's box.
+///
+/// # Errors
+/// The item itself where memory ran out, and for nothing else; nothing but room changed.
+pub fn apply_parting<B: Node>(
+    alloc: Global,
+    state: &mut State<B>,
+    item: Item,
+    names: &(Name, Name),
+) -> Result<Option<B>, Item>
+    requires work { MayRemove state.old item (bids_farewell item (Bypass names.now.0 names.now.1)) }
+    requires home { IsAtHome state.old.graph item.to }
+    ensures applied { IfOk result (Removes B.state state.old state.new item (bids_farewell item (Bypass names.now.0 names.now.1))) }
+    ensures err { OnErr result (StandsOn state.old state.new) }
+    ensures back { IfErr result (λ it. it ≡ item) }
+{
+    let Some(first) = outward(state, item.to, &names.0) else {
+        return apply_going(alloc, state, item);
+    };
+    let Some(second) = outward(state, item.to, &names.1) else {
+        return apply_going(alloc, state, item);
+    };
+    apply_bypass(alloc, state, item, names, first, second)
 }

@@ -1,11 +1,8 @@
-// A taken item is done; and a hook goes.
-ghost use Rattle.std.specs.Prelude.{◌≡◌, ℕ, ◌+◌, ◌<◌, ◌==◌, not, filter, length, IfOk, Some};
-ghost use Rattle.std.specs.Arc.{arc_value};
-ghost use Rattle.std.specs.Option.{option_map};
+// The peer of a hook that goes, and whether its node stays.
+ghost use Rattle.std.specs.Prelude.{◌≡◌, ℕ, ◌+◌, ◌<◌, ◌==◌, not, filter, length, Some};
 ghost use Rattle.ng_machine.specs.Retire.{has_hooks, stays};
 ghost use Rattle.ng_machine.specs.Run.{RunState};
-ghost use Rattle.ng_machine.specs.World.{NodeRecord, hook_at, is_named, node_at, node_in, without_hook};
-ghost use Rattle.ng_orders.specs.Changed.{has_link, way_without, with_node_if};
+ghost use Rattle.ng_machine.specs.World.{NodeRecord, hook_at, is_named, node_in, without_hook};
 ghost use Rattle.ng_pending.specs.Holds.{IsOutIn, done_from, in_world};
 ghost use Rattle.ng_pending.specs.Room.{Spends};
 ghost use Rattle.ng_queue.specs.Queues.{spare_at};
@@ -15,29 +12,12 @@ ghost use Rattle.ng_tie.specs.TieLaws.{one};
 ghost use Rattle.ng_topology.specs.Topology.{IsAtHome};
 ghost use Rattle.ng_world.specs.Stands.{MayLeave, Stands};
 
-use ng_base::{Kind, LinkId, Name, NoMemory, NodeId};
-use ng_machine::{Body, End, Hook, Item};
+use ng_base::{Name, NodeId};
+use ng_machine::{Body, Hook, Item};
 use ng_node::Node;
-use ng_plan::{Plan, without};
+use ng_orders::finish;
 use ng_step::accept_at;
 use ng_world::State;
-use std::alloc::Global;
-use std::sync::Arc;
-
-/// A taken item is done; room stays.
-pub fn finish<B: Node>(state: &mut State<B>, item: &Item)
-    requires out { (a : RunState) × Stands state.old a × IsOutIn a item.now }
-    requires leaves { MayLeave state.old.graph item.now }
-    requires numbers { HasNumbers 1 state.old.pending.tally }
-    ensures stands { (a : RunState) → Stands state.old a → IsOutIn a item.now → Stands state.new (done_from a item.now) }
-    ensures graph { state.new.graph ≡ state.old.graph }
-    ensures told { state.new.told ≡ state.old.told }
-    ensures spares { state.new.pending.queues.spares ≡ state.old.pending.queues.spares }
-    ensures lists { length state.new.pending.queues.lists ≡ length state.old.pending.queues.lists }
-    ensures numbers { (k : ℕ) → HasNumbers (k + 1) state.old.pending.tally → HasNumbers k state.new.pending.tally }
-{
-    state.pending.finish(item);
-}
 
 /// A taken item is done, and the peer of a hook is to take its end away; there is room for that.
 pub fn ask_peer<B: Node>(state: &mut State<B>, item: &Item, hook: &Hook)
@@ -86,46 +66,4 @@ pub fn stays_without<B: Node>(state: &State<B>, id: NodeId, hook: &Name) -> bool
 {
     state.graph.soundness();
     has_other(state.graph.hooks(id), hook) || state.graph.node(id).lasting()
-}
-
-/// The plan that a node, whose box is at home, has without a hook, where its type has plans.
-///
-/// # Errors
-/// `NoMemory` where memory ran out, and for nothing else.
-pub fn plan_without<B: Node>(
-    alloc: Global,
-    state: &State<B>,
-    id: NodeId,
-    hook: &Name,
-) -> Result<Option<Arc<Plan>>, NoMemory>
-    requires { IsAtHome state.now.graph id }
-    ensures { IfOk result (λ next. (node : NodeRecord) → node_in state.now.graph.nodes id ≡ Some node
-        → option_map arc_value next ≡ way_without node hook.now) }
-{
-    state.graph.soundness();
-    match state.graph.kind(id) {
-        Some(Kind::One2many) | None => Ok(None),
-        Some(_) => {
-            let plan = state.graph.plan(id)?;
-            let next = without(alloc, &plan, hook)?;
-            Ok(Some(next))
-        }
-    }
-}
-
-/// The hook of an end is taken away, if it has that link: whether it has. `next` is the node's plan without it.
-pub fn leave_end<B: Node>(
-    state: &mut State<B>,
-    at: &End,
-    link: LinkId,
-    next: Option<Arc<Plan>>,
-) -> bool
-    requires home { IsAtHome state.old.graph at.now.node }
-    requires next { (node : NodeRecord) → node_in state.old.graph.nodes at.now.node ≡ Some node
-        → option_map arc_value next ≡ way_without node at.now.hook }
-    ensures answer { (node : NodeRecord) → node_in state.old.graph.nodes at.now.node ≡ Some node → result ≡ has_link node at.now.hook link }
-    ensures stands { (a : RunState) (node : NodeRecord) → Stands state.old a → node_at a.world at.now.node ≡ Some node
-        → Stands state.new (in_world a (with_node_if result a.world at.now.node (without_hook node at.now.hook))) }
-{
-    state.graph.leave(at, link, next)
 }

@@ -5,12 +5,13 @@ ghost use Rattle.ng_orders.specs.Steps.{StandsOn};
 ghost use Rattle.ng_removal.specs.Removals.{MayRemove, Removes, leaves, removes_hook};
 ghost use Rattle.ng_topology.specs.Topology.{IsAtHome};
 
-use crate::ends::{ask_peer, finish, hook_of, leave_end, plan_without, stays_without};
+use crate::ends::{ask_peer, hook_of, stays_without};
 use crate::retiring::remove;
 use crate::room::widen_for_drops;
 use ng_base::{Errno, LinkId, Name};
 use ng_machine::{End, Item};
 use ng_node::Node;
+use ng_orders::{finish, leave_end, plan_without};
 use ng_step::{refuse, widen, widen_told};
 use ng_world::State;
 use std::alloc::Global;

@@ -4,12 +4,13 @@
 mod bypass;
 mod drops;
 mod ends;
+mod going;
 mod hooks;
 mod peers;
 mod retiring;
 mod room;
 mod shutdown;
+mod staying;
 
-pub use bypass::apply_bypass;
 pub use hooks::{apply_leave, apply_rmhook};
-pub use shutdown::apply_going;
+pub use shutdown::apply_shutdown;

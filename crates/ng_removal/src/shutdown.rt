@@ -1,45 +1,37 @@
 // The order to shut down.
 ghost use Rattle.std.specs.Prelude.{◌≡◌, IfOk, IfErr, OnErr};
 ghost use Rattle.ng_orders.specs.Steps.{StandsOn};
-ghost use Rattle.ng_removal.specs.Removals.{MayRemove, Removes, goes};
+ghost use Rattle.ng_removal.specs.Removals.{MayRemove, Removes, shuts_down};
 ghost use Rattle.ng_topology.specs.Topology.{IsAtHome};
 
-use crate::ends::finish;
-use crate::peers::{ask_peers, hooks_of, widen_peers};
-use crate::retiring::remove;
-use crate::room::widen_for_drops;
-use ng_machine::Item;
+use crate::bypass::apply_parting;
+use crate::going::apply_going;
+use crate::staying::apply_staying;
+use ng_machine::{Farewell, Item};
 use ng_node::Node;
 use ng_world::State;
 use std::alloc::Global;
 
-/// A node goes, and the peers of its hooks at other nodes are to take their ends away: its box.
+/// The order to shut down: a node goes or stays without its hooks, or joins two of its peers to each other and goes, as its
+/// type says, and the other peers of its hooks at other nodes are to take their ends away: the box of a node that goes, and else
+/// nothing.
 ///
 /// # Errors
 /// The item itself where memory ran out, and for nothing else; nothing but room changed.
-pub fn apply_going<B: Node>(
+pub fn apply_shutdown<B: Node>(
     alloc: Global,
     state: &mut State<B>,
     item: Item,
 ) -> Result<Option<B>, Item>
-    requires work { MayRemove state.old item (goes item) }
+    requires work { MayRemove state.old item (shuts_down item) }
     requires home { IsAtHome state.old.graph item.to }
-    ensures applied { IfOk result (Removes B.state state.old state.new item (goes item)) }
+    ensures applied { IfOk result (Removes B.state state.old state.new item (shuts_down item)) }
     ensures err { OnErr result (StandsOn state.old state.new) }
     ensures back { IfErr result (λ it. it ≡ item) }
 {
-    state.graph.soundness();
-    let Ok(hooks) = hooks_of(alloc, state, item.to) else {
-        return Err(item);
-    };
-    if widen_peers(state, hooks.as_slice()).is_err() {
-        return Err(item);
+    match state.graph.node(item.to).farewell() {
+        Farewell::Plain => apply_going(alloc, state, item),
+        Farewell::Stay => apply_staying(alloc, state, item),
+        Farewell::Bypass { a, b } => apply_parting(alloc, state, item, &(a, b)),
     }
-    if widen_for_drops(state, item.to).is_err() {
-        return Err(item);
-    }
-    finish(state, &item);
-    ask_peers(state, item.to, item.stamp, hooks);
-    let node = remove(alloc, state, item.to, item.stamp);
-    Ok(Some(node))
 }

@@ -1,4 +1,4 @@
--- What a seat is handed, by its job.
+-- What a seat is handed, by its job, and what it hands in.
 use Rattle.std.specs.Arc.{arc_value}
 use Rattle.ng_machine.specs.declared.item.Item.{Item}
 use Rattle.ng_machine.specs.Desk.{Job, Within, Reads, Writes}
@@ -6,6 +6,9 @@ use Rattle.ng_machine.specs.State.{State}
 use Rattle.ng_machine.specs.World.{NodeRecord, state_of}
 use Rattle.ng_world.specs.declared.handed.Work.{Work}
 use Rattle.ng_world.specs.declared.handed.Work.TheVariants.{Read, Write, Inside}
+use Rattle.ng_story.specs.Work.{Handed, Evaluated, Written, Untouched}
+use Rattle.ng_world.specs.declared.handed.Done.{Done}
+use Rattle.ng_world.specs.declared.handed.Done.TheVariants as done
 use Rattle.ng_world.specs.declared.handed.Tool.{Tool}
 use Rattle.ng_world.specs.declared.handed.Tool.TheVariants.{Plan, Node, Nothing}
 
@@ -25,3 +28,14 @@ abbrev pub job_by : Tool → Item → NodeRecord → Job
 job_by (Plan plan) item node = Reads item (arc_value plan)
 job_by Node item node = Writes item (state_of node)
 job_by Nothing item node = Within item
+
+abbrev pub item_done : {B : Type 0} → Done B → Item
+item_done (done.Read item outcome) = item
+item_done (done.Write item node outcome) = item
+item_done (done.Inside item) = item
+
+-- what is handed in, in the words of the contracts
+abbrev pub handed_with : {B : Type 0} → (B → State) → Done B → Handed
+handed_with state (done.Read item outcome) = Evaluated item outcome
+handed_with state (done.Write item node outcome) = Written item (state node) outcome
+handed_with state (done.Inside item) = Untouched item

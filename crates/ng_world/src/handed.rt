@@ -1,9 +1,9 @@
 // What a seat is handed.
 ghost use Rattle.std.specs.Prelude.{◌≡◌};
-ghost use Rattle.ng_world.specs.Handed.{item_of};
+ghost use Rattle.ng_world.specs.Handed.{item_done, item_of};
 
 use ng_base::{ItemId, NodeId};
-use ng_machine::Item;
+use ng_machine::{Item, Outcome};
 use ng_node::Node;
 use ng_plan::Plan;
 use std::sync::Arc;
@@ -50,6 +50,58 @@ impl<B: Node> Work<B> {
             Work::Read { item, plan: _ } => item.to,
             Work::Write { item, node: _ } => item.to,
             Work::Inside { item } => item.to,
+        }
+    }
+}
+
+/// What a seat hands in: an item, and what came of the work on it.
+#[derive(Drop)]
+pub enum Done<B: Node> {
+    /// A packet, and what the plan of its node made of it.
+    Read {
+        item: Item,
+        outcome: Outcome,
+    },
+    /// A writer, the node that worked on it, and what came of that.
+    Write {
+        item: Item,
+        node: B,
+        outcome: Outcome,
+    },
+    /// An item that needs no work outside.
+    Inside {
+        item: Item,
+    },
+}
+
+impl<B: Node> Done<B> {
+    /// The number of its item.
+    pub fn id(&self) -> ItemId
+        ensures { result ≡ (item_done self.now).id }
+    {
+        match self {
+            Done::Read { item, outcome: _ } => item.id,
+            Done::Write {
+                item,
+                node: _,
+                outcome: _,
+            } => item.id,
+            Done::Inside { item } => item.id,
+        }
+    }
+
+    /// The node that its item is for.
+    pub fn node(&self) -> NodeId
+        ensures { result ≡ (item_done self.now).to }
+    {
+        match self {
+            Done::Read { item, outcome: _ } => item.to,
+            Done::Write {
+                item,
+                node: _,
+                outcome: _,
+            } => item.to,
+            Done::Inside { item } => item.to,
         }
     }
 }

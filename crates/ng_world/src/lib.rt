@@ -10,5 +10,5 @@ mod state;
 mod taking;
 mod telling;
 
-pub use handed::Work;
+pub use handed::{Done, Work};
 pub use state::{Port, State};

@@ -20,7 +20,7 @@ use Rattle.ng_orders.proofs.Stepping.{node_here, numbers, ok_of, stepped}
 use Rattle.ng_removal.proofs.AskedPeers.{asked_alone, asked_items}
 use Rattle.ng_removal.proofs.Following.{change_both}
 use Rattle.ng_removal.proofs.Waiting.{box_comes, may_go, old_beside, waits_same}
-use Rattle.ng_removal.proofs.shutdown.apply_going.Goals as goal
+use Rattle.ng_removal.proofs.going.apply_going.Goals as goal
 
 pub finish-requires-clause-numbers : goal.finish-requires-clause-numbers
 finish-requires-clause-numbers g c κs within =
