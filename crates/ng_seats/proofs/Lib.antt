@@ -1,8 +1,12 @@
 pub mod OpenStories
 pub mod Working
+pub mod HandedIn
 pub mod PutBack
 pub mod Stopped
 pub mod PortCounts
+pub mod Laws
+pub mod FewHooks
+pub mod HookTotals
 pub mod Mapped
 pub mod KeptPorts
 pub mod FedStories

@@ -8,7 +8,7 @@ use Rattle.ng_machine.specs.LowRun.{IsLow, IsModest}
 use Rattle.ng_machine.specs.Run.{after}
 use Rattle.ng_machine.proofs.Lowering.{runs_are_low}
 use Rattle.ng_story.specs.SoundStory.{IsSoundStory}
-use Rattle.ng_story.specs.Story.{Story, has_ended, has_failed, run_state_of, with_event}
+use Rattle.ng_story.specs.Story.{Story, has_ended, has_failed, run_state_of, with_event, world_of}
 use Rattle.ng_story.proofs.SoundStories.{at_more, so_far}
 use Rattle.ng_world.specs.declared.state.State.{State}
 use Rattle.ng_world.specs.Stands.{Stands}
@@ -24,6 +24,10 @@ open_story s runs = none_closed s.closed (or_parts (is_some s.closed) (has_faile
 
 pub low_story : (c : CoreStory) → IsSoundStory (story c) → IsModest (setting_of c) → (story c).closed ≡ None → IsLow (run_state_of (story c)).world
 low_story c sound modest is_open = runs_are_low (setting_of c) c.journal (so_far (story c) sound is_open) modest
+
+-- the same of any story
+pub low_sound : (s : Story) → IsSoundStory s → IsModest s.setting → s.closed ≡ None → IsLow (world_of s)
+low_sound s sound modest is_open = runs_are_low s.setting s.journal (so_far s sound is_open) modest
 
 -- the story with one event more
 abbrev pub pushed : CoreStory → Event → CoreStory

@@ -1,11 +1,15 @@
 -- All that waits is dropped.
-use Rattle.std.proofs.Common.{◌≡◌, ◌∙◌, ℕ, List, [], ◌++◌, length, map, Bool, true, false, refl, sym, ap, subst, true≢false, arith, append-nil}
+use Rattle.std.proofs.Common.{◌≡◌, ◌∙◌, ℕ, List, [], ◌∷◌, ◌++◌, length, map, Bool, true, false, refl, sym, ap, subst, true≢false, arith, append-nil, length-append}
+use Rattle.ng_base.specs.declared.cause.Cause.TheVariants.{Budget}
+use Rattle.ng_machine.specs.Change.{drops_for}
+use Rattle.ng_machine.specs.LowRun.{IsLow}
+use Rattle.ng_machine.specs.World.{World}
 use Rattle.std.specs.declared.option.Option.TheVariants.{Some}
 use Rattle.ng_base.specs.declared.event.Event.{Event}
 use Rattle.ng_base.specs.declared.event.Event.TheVariants.{Stop}
 use Rattle.ng_story.specs.Closing.{stopped_if}
 use Rattle.ng_story.specs.DeskLaws.{stop_events}
-use Rattle.ng_story.specs.Story.{Story, run_state_of}
+use Rattle.ng_story.specs.Story.{Story, run_state_of, world_of}
 use Rattle.ng_story.proofs.SoundStories.{at_more}
 use Rattle.ng_seats.specs.Stops.{stopped_run}
 use Rattle.ng_machine.specs.declared.item.Item.{Item}
@@ -73,6 +77,27 @@ stands_marked t a b S = record {
 pub stands_closed : {B : Type 0} (t : State B) (s : Story) (unfed : ℕ) (b : Bool) → Stands t (stopped_run b (run_state_of s)) → Stands t (run_state_of (record (stopped_if b s) { closed = Some unfed }))
 stands_closed t s unfed true S = subst (Stands t) (sym (at_more s Stop)) (stands_marked t (stopped_run true (run_state_of s)) true S)
 stands_closed t s unfed false S = S
+
+drops_length : (items : List Item) → length (drops_for Budget items) ≡ length items
+drops_length [] = refl
+drops_length (item ∷ items) = let more = drops_length items in omega arith
+
+-- the numbers of a world are low after a Stop too
+low_stopped : (w : World) → IsLow w → IsLow (stop w)
+low_stopped w L = record {
+  items = L.items;
+  settled = let was = L.settled in let join = length-append w.dropped (drops_for Budget w.pending) in let long = drops_length w.pending in omega arith;
+  nodes = L.nodes;
+  links = L.links;
+  applies = L.applies;
+  losses = L.losses;
+  outside = L.outside;
+  spool = L.spool;
+}
+
+pub low_closed : (s : Story) (unfed : ℕ) (b : Bool) → IsLow (world_of s) → IsLow (world_of (record (stopped_if b s) { closed = Some unfed }))
+low_closed s unfed true L = subst (λ (a : RunState). IsLow a.world) (sym (at_more s Stop)) (low_stopped (world_of s) L)
+low_closed s unfed false L = L
 
 pub closed_story : (s : Story) (unfed : ℕ) (b : Bool) → record s { journal = s.journal ++ stop_events b; closed = Some unfed } ≡ record (stopped_if b s) { closed = Some unfed }
 closed_story s unfed true = refl

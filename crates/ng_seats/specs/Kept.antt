@@ -1,9 +1,9 @@
--- What a core's type keeps: a sound story over inputs that are few enough, fields that stand for its run, and a journal with room
--- for the end of all that is taken and for a Stop.
-use Rattle.std.specs.Prelude.{◌≡◌, ◌+◌, ◌≤◌, vec_len, vec_capacity, None}
-use Rattle.ng_machine.specs.LowRun.{IsModest}
+-- What a core's type keeps: a sound story over inputs that are few enough, a seat at least, low numbers, fields that stand for its
+-- run, and a journal with room for the end of all that is taken and for a Stop.
+use Rattle.std.specs.Prelude.{◌≡◌, ◌+◌, ◌<◌, ◌≤◌, vec_len, vec_capacity, None}
+use Rattle.ng_machine.specs.LowRun.{IsLow, IsModest}
 use Rattle.ng_story.specs.SoundStory.{IsSoundStory}
-use Rattle.ng_story.specs.Story.{run_state_of}
+use Rattle.ng_story.specs.Story.{run_state_of, world_of}
 use Rattle.ng_world.specs.Stands.{Stands}
 use Rattle.ng_seats.specs.CoreStory.{CoreStory, setting_of, story}
 use Rattle.ng_seats.specs.declared.machine.Core.TheInside.{Inside}
@@ -24,5 +24,7 @@ story_in c = record {
 pub record IsKept {B : Type 0} (c : Inside B) : Type 0 where
   pub sound : IsSoundStory (story (story_in c))
   pub modest : IsModest (setting_of (story_in c))
+  pub low : IsLow (world_of (story (story_in c)))
+  pub some : 0 < c.seats
   pub stands : Stands c.state (run_state_of (story (story_in c)))
   pub room : c.closed ≡ None → vec_len c.journal + (c.state.pending.out + 1) ≤ vec_capacity c.journal

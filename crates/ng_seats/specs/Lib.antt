@@ -4,3 +4,5 @@ pub mod Beginning
 pub mod Kept
 pub mod Stops
 pub mod Away
+pub mod Lawful
+pub mod Counting

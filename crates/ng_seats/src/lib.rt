@@ -2,6 +2,8 @@
 //! order, and its type keeps the journal orderly.
 #![tactic(auto)]
 
+mod applying;
+mod counting;
 mod ending;
 mod fault;
 mod feeding;

@@ -4,10 +4,11 @@ use Rattle.ng_base.specs.declared.event.Event.{Event}
 use Rattle.ng_base.specs.declared.event.Event.TheVariants.{Back}
 use Rattle.ng_base.specs.declared.ids.ItemId.{ItemId}
 use Rattle.ng_machine.specs.Desk.{Idle}
+use Rattle.ng_machine.specs.LowRun.{IsLow}
 use Rattle.ng_story.specs.DeskLaws.{IsOrderlySoFar}
 use Rattle.ng_story.specs.Desks.{Gained, IsAtWork, Others, story_job}
 use Rattle.ng_story.specs.SoundStory.{IsSoundStory}
-use Rattle.ng_story.specs.Story.{Story, has_ended, run_state_of, with_event}
+use Rattle.ng_story.specs.Story.{Story, has_ended, run_state_of, with_event, world_of}
 use Rattle.ng_story.proofs.OfDesks.{back_tells}
 use Rattle.ng_story.proofs.SoundStories.{back_keeps_sound, so_far}
 use Rattle.ng_tie.proofs.OnceTaken.{untaken_length}
@@ -16,7 +17,7 @@ use Rattle.ng_world.specs.Stands.{Stands}
 use Rattle.ng_seats.specs.Away.{IsAwayWith}
 use Rattle.ng_seats.specs.CoreStory.{CoreStory, story}
 use Rattle.ng_seats.specs.Kept.{story_in}
-use Rattle.ng_seats.proofs.OpenStories.{open_story, stands_pushed}
+use Rattle.ng_seats.proofs.OpenStories.{low_sound, open_story, stands_pushed}
 use Rattle.ng_seats.proofs.PutBack.{at_work_with, is_away}
 use Rattle.ng_seats.proofs.Working.{taken_out}
 use Rattle.ng_seats.proofs.machine.Core.back.Goals as goal
@@ -56,6 +57,8 @@ invariant_of-self g c =
     record {
       sound = subst IsSoundStory (sym (grown g c)) (back_keeps_sound s item.id c.args.seat c.self.invariant.sound (is_open g early) W.taken);
       modest = c.self.invariant.modest;
+      low = subst (λ (x : Story). IsLow (world_of x)) (sym (grown g c)) (low_sound (with_event s (Back item.id)) (back_keeps_sound s item.id c.args.seat c.self.invariant.sound (is_open g early) W.taken) c.self.invariant.modest (is_open g early));
+      some = c.self.invariant.some;
       stands = subst (λ (x : Story). Stands c.put_back.new.state (run_state_of x)) (sym (grown g c)) (stands_pushed c.put_back.new.state s (Back item.id) N);
       room = λ z. let was = c.self.invariant.stands.items.out in let is = N.items.out in let room = c.self.invariant.room z in let len = c.push_reserved.ensures.len in let cap = c.push_reserved.ensures.capacity in omega arith;
     }

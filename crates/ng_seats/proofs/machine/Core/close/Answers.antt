@@ -3,6 +3,7 @@ use Rattle.std.proofs.lemmas.Bool.{and_parts, eqb-true}
 use Rattle.std.specs.Prelude.{nat_lt}
 use Rattle.std.specs.declared.option.Option.TheVariants.{None, Some}
 use Rattle.ng_base.specs.declared.event.Event.{Event}
+use Rattle.ng_machine.specs.LowRun.{IsLow}
 use Rattle.ng_machine.proofs.TakenOut.{spent_takes_nothing}
 use Rattle.ng_story.specs.Closing.{close_refusal, closed_with, is_spent, refusal_below, stops}
 use Rattle.ng_story.specs.DeskLaws.{closed_desk, stop_events}
@@ -17,7 +18,7 @@ use Rattle.ng_seats.specs.CoreStory.{CoreStory, story}
 use Rattle.ng_seats.specs.Kept.{story_in}
 use Rattle.ng_seats.specs.Stops.{stopped_run}
 use Rattle.ng_seats.proofs.OpenStories.{low_story, open_story}
-use Rattle.ng_seats.proofs.Stopped.{closed_story, stands_closed}
+use Rattle.ng_seats.proofs.Stopped.{closed_story, low_closed, stands_closed}
 use Rattle.ng_seats.proofs.machine.Core.close.Goals as goal
 use Rattle.ng_seats.proofs.machine.Core.close.Goals.{After-self, After-stop_if, After-stops-stops}
 
@@ -62,6 +63,8 @@ invariant_of-self g c =
     record {
       sound = subst IsSoundStory (sym (grown g at are)) (close_keeps_sound s c.args.unfed c.self.invariant.sound early none);
       modest = c.self.invariant.modest;
+      low = subst (λ (z : Story). IsLow (world_of z)) (sym (grown g at are)) (low_closed s c.args.unfed (stops s c.args.unfed) c.self.invariant.low);
+      some = c.self.invariant.some;
       stands = subst (λ (z : Story). Stands c.stop_if.new.state (run_state_of z)) (sym (grown g at are))
           (stands_closed c.stop_if.new.state s c.args.unfed (stops s c.args.unfed) (subst (λ (b : Bool). Stands c.stop_if.new.state (stopped_run b (run_state_of s))) are N));
       room = λ z. absurd (true≢false (ap is_some z));

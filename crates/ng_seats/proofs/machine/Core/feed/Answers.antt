@@ -7,14 +7,14 @@ use Rattle.ng_machine.specs.Refusal.{feed_refusal}
 use Rattle.ng_story.specs.DeskLaws.{fed_desk}
 use Rattle.ng_story.specs.Desks.{Others, story_desk}
 use Rattle.ng_story.specs.SoundStory.{IsSoundStory}
-use Rattle.ng_story.specs.Story.{AreFitFor, has_ended, run_state_of, world_of}
+use Rattle.ng_story.specs.Story.{AreFitFor, has_ended, run_state_of, with_event, with_input, world_of}
 use Rattle.ng_story.proofs.OfDesks.{feed_tells}
 use Rattle.ng_story.proofs.SoundStories.{feed_keeps_sound, so_far}
 use Rattle.ng_world.specs.Stands.{Stands}
 use Rattle.ng_seats.specs.CoreStory.{CoreStory, setting_of, story}
-use Rattle.ng_machine.specs.LowRun.{IsModest}
+use Rattle.ng_machine.specs.LowRun.{IsLow, IsModest}
 use Rattle.ng_seats.specs.Kept.{story_in}
-use Rattle.ng_seats.proofs.OpenStories.{low_story, open_story}
+use Rattle.ng_seats.proofs.OpenStories.{low_sound, low_story, open_story}
 use Rattle.ng_seats.proofs.FedStories.{fed_run, fits_kept, given_with, tags_last}
 use Rattle.ng_tally.specs.declared.tally.Tally.{Tally}
 use Rattle.ng_seats.proofs.KeptPorts.{kept_count}
@@ -47,6 +47,8 @@ invariant_of-self g c =
     record {
       sound = subst (λ (x : CoreStory). IsSoundStory (story x)) e c.self.invariant.sound;
       modest = subst (λ (x : CoreStory). IsModest (setting_of x)) e c.self.invariant.modest;
+      low = subst (λ (x : CoreStory). IsLow (world_of (story x))) e c.self.invariant.low;
+      some = c.self.invariant.some;
       stands = subst (λ (x : CoreStory). Stands c.self.inside.state (run_state_of (story x))) e c.self.invariant.stands;
       room = λ z. let room = c.self.invariant.room z in omega arith;
     }
@@ -71,6 +73,8 @@ invariant_of-self-in_default-feed_input g c =
     record {
       sound = subst (λ (x : CoreStory). IsSoundStory (story x)) e c.self.invariant.sound;
       modest = subst (λ (x : CoreStory). IsModest (setting_of x)) e c.self.invariant.modest;
+      low = subst (λ (x : CoreStory). IsLow (world_of (story x))) e c.self.invariant.low;
+      some = c.self.invariant.some;
       stands = subst (λ (x : CoreStory). Stands c.feed_input.new.state (run_state_of (story x))) e (c.in_default-feed_input.ensures.err (run_state_of (story (story_in c.self.inside))) c.self.invariant.stands);
       room = λ z. let room = c.self.invariant.room z in omega arith;
     }
@@ -100,6 +104,8 @@ invariant_of-self-2 g c =
     record {
       sound = subst (λ (z : CoreStory). IsSoundStory (story z)) (sym (grown g at)) (feed_keeps_sound s c.args.input c.self.invariant.sound early none);
       modest = subst (λ (z : CoreStory). IsModest (setting_of z)) (sym (grown g at)) (subst (λ (z : CoreStory). AreFitFor (story z) (c.args.input ∷ [])) (sym c.self.view_is) c.requires.fits);
+      low = subst (λ (z : CoreStory). IsLow (world_of (story z))) (sym (grown g at)) (low_sound (with_event (with_input s c.args.input) Feed) (feed_keeps_sound s c.args.input c.self.invariant.sound early none) (subst (λ (z : CoreStory). AreFitFor (story z) (c.args.input ∷ [])) (sym c.self.view_is) c.requires.fits) early);
+      some = c.self.invariant.some;
       stands = subst (λ (z : CoreStory). Stands c.feed_input.new.state (run_state_of (story z))) (sym (grown g at)) (subst (Stands c.feed_input.new.state) (sym (fed_run s c.args.input c.self.invariant.sound early)) N);
       room = λ z. omega arith;
     }

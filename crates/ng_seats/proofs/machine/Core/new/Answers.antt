@@ -2,18 +2,19 @@ use Rattle.std.proofs.Common.{◌≡◌, ◌∙◌, ℕ, ◌+◌, Bool, List, le
 use Rattle.std.proofs.lemmas.Grind.{common_steps}
 use Rattle.ng_base.specs.declared.event.Event.{Event}
 use Rattle.ng_machine.specs.declared.input.Input.{Input}
-use Rattle.ng_machine.specs.LowRun.{IsModest}
+use Rattle.ng_machine.specs.LowRun.{IsLow, IsModest}
 use Rattle.ng_machine.specs.World.{blank_port}
 use Rattle.ng_seats.specs.Beginning.{start_graph}
 use Rattle.ng_seats.proofs.Mapped.{map_length}
 use Rattle.ng_base.specs.declared.kind.Kind.{Kind}
 use Rattle.ng_machine.specs.State.{kind_of}
 use Rattle.ng_story.specs.SoundStory.{IsSoundStory}
-use Rattle.ng_story.specs.Story.{run_state_of}
+use Rattle.ng_story.specs.Story.{run_state_of, world_of}
 use Rattle.ng_story.proofs.SoundStories.{begun_is_sound}
 use Rattle.ng_world.specs.Stands.{Stands}
 use Rattle.ng_seats.specs.Beginning.{begun_core}
 use Rattle.ng_seats.specs.CoreStory.{CoreStory, setting_of, story}
+use Rattle.ng_seats.proofs.OpenStories.{low_sound}
 use Rattle.ng_seats.proofs.Starting.{stands_begun}
 use Rattle.ng_seats.proofs.machine.Core.new.Goals as goal
 
@@ -38,9 +39,12 @@ invariant_of-result g c =
     let count : c.len-2.result ≡ length c.args.ports.items = let b = c.len-2.ensures in grind (arith, common_steps) in
     let kept = c.in_ok-kept.ensures ∙ ap (λ (n : ℕ). replicate n blank_port) count in
     let holds = c.in_ok-pending.ensures.holds c.args.own c.args.ports.items kinds in
+    let modest : IsModest (setting_of begun) = record { budget = c.requires.budget; ports = c.requires.ports; commands = omega arith; fits = tt } in
     record {
       sound = subst (λ (z : CoreStory). IsSoundStory (story z)) is (begun_is_sound (setting_of begun) refl);
-      modest = subst (λ (z : CoreStory). IsModest (setting_of z)) is (record { budget = c.requires.budget; ports = c.requires.ports; commands = omega arith; fits = tt });
+      modest = subst (λ (z : CoreStory). IsModest (setting_of z)) is modest;
+      low = subst (λ (z : CoreStory). IsLow (world_of (story z))) is (low_sound (story begun) (begun_is_sound (setting_of begun) refl) modest refl);
+      some = c.requires.seats;
       stands = subst (λ (z : CoreStory). Stands {B = g.row.B.Denot} (record { graph = c.in_ok-graph.graph; pending = c.in_ok-pending.pending; told = c.new-2.result; ports = c.in_ok-kept.kept }) (run_state_of (story z))) is
           (stands_begun (record { graph = c.in_ok-graph.graph; pending = c.in_ok-pending.pending; told = c.new-2.result; ports = c.in_ok-kept.kept }) c.args.own c.args.ports.items kinds c.requires.boxes graph
           holds lists c.new-2.ensures.items kept);

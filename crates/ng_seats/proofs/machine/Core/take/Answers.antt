@@ -9,6 +9,7 @@ use Rattle.ng_base.specs.declared.event.Event.TheVariants.{Take}
 use Rattle.ng_base.specs.declared.ids.ItemId.{ItemId}
 use Rattle.ng_machine.specs.declared.item.Item.{Item}
 use Rattle.ng_machine.specs.Desk.{Job, Idle, SeatDesk, job_of}
+use Rattle.ng_machine.specs.LowRun.{IsLow}
 use Rattle.ng_machine.specs.Orderly.{MayTake}
 use Rattle.ng_machine.specs.Run.{RunState, Taken}
 use Rattle.ng_pending.specs.Holds.{with_taken}
@@ -22,7 +23,7 @@ use Rattle.ng_world.specs.Handed.{item_of, job_with}
 use Rattle.ng_world.specs.Stands.{Stands}
 use Rattle.ng_seats.specs.CoreStory.{CoreStory, story}
 use Rattle.ng_seats.specs.Kept.{story_in}
-use Rattle.ng_seats.proofs.OpenStories.{open_story, stands_pushed}
+use Rattle.ng_seats.proofs.OpenStories.{low_sound, open_story, stands_pushed}
 use Rattle.ng_seats.proofs.machine.Core.take.Goals as goal
 use Rattle.ng_seats.proofs.machine.Core.take.Goals.{After-push_reserved}
 
@@ -69,6 +70,8 @@ invariant_of-self-2 g c =
     record {
       sound = subst IsSoundStory (sym same) (take_keeps_sound s item c.args.seat c.self.invariant.sound (open_ g at) lt idle within (next g at));
       modest = c.self.invariant.modest;
+      low = subst (λ (x : Story). IsLow (world_of x)) (sym same) (low_sound (with_event s (Take item.id c.args.seat)) (take_keeps_sound s item c.args.seat c.self.invariant.sound (open_ g at) lt idle within (next g at)) c.self.invariant.modest (open_ g at));
+      some = c.self.invariant.some;
       stands = subst (λ (x : Story). Stands c.take.new.self (run_state_of x)) (sym same) (stands_pushed c.take.new.self s (Take item.id c.args.seat) N);
       room = λ z. let room = c.self.invariant.room z in grind (arith, common_steps);
     }

@@ -1,0 +1,44 @@
+// What a seat took is applied.
+ghost use Rattle.std.specs.Prelude.{◌≡◌, false, IfOk, IfErr, OnOk, OnErr};
+ghost use Rattle.ng_base.specs.declared.event.Event.TheVariants.{Apply};
+ghost use Rattle.ng_machine.specs.Desk.{Idle};
+ghost use Rattle.ng_machine.specs.World.{node_at};
+ghost use Rattle.ng_seats.specs.CoreStory.{story};
+ghost use Rattle.ng_step.specs.Applied.{ComesOut};
+ghost use Rattle.ng_story.specs.Desks.{Gained, Others, story_job};
+ghost use Rattle.ng_story.specs.Story.{has_ended, with_event, world_of};
+ghost use Rattle.ng_story.specs.Work.{IsDone};
+ghost use Rattle.ng_world.specs.Handed.{handed_with, item_done};
+
+use crate::Core;
+use ng_apply::apply;
+use ng_base::Event;
+use ng_node::Node;
+use ng_world::Done;
+use std::alloc::Global;
+
+impl<B: Node> Core<B> {
+    /// Applies what the seat took, with what came of the work on it: the box of a node that goes by that.
+    ///
+    /// # Errors
+    /// What was handed in, where memory ran out, and for nothing else; nothing changed.
+    pub fn apply(&mut self, alloc: Global, seat: u32, done: Done<B>) -> Result<Option<B>, Done<B>>
+        requires running { has_ended (story self.old) ≡ false }
+        requires done { IsDone (story_job (story self.old) seat) (handed_with B.state done) }
+        ensures applied { OnOk result (story self.new ≡ with_event (story self.old) (Apply (item_done done).id)) }
+        ensures own { OnOk result (Gained seat (Apply (item_done done).id) Idle (story self.old) (story self.new)) }
+        ensures out { IfOk result (ComesOut B.state (node_at (world_of (story self.old)) (item_done done).to) (node_at (world_of (story self.new)) (item_done done).to)) }
+        ensures err { OnErr result (self.new ≡ self.old) }
+        ensures back { IfErr result (λ it. it ≡ done) }
+        ensures others { Others seat (story self.old) (story self.new) }
+    {
+        let id = done.id();
+        match apply(alloc, &mut self.state, done) {
+            Ok(out) => {
+                self.journal.push_reserved(Event::Apply { id });
+                Ok(out)
+            }
+            Err(done) => Err(done),
+        }
+    }
+}
