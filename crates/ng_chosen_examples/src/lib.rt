@@ -1,0 +1,15 @@
+//! Worked runs of the core by moves that are chosen beforehand, each ended plainly.
+#![tactic(auto)]
+
+#[cfg(test)]
+mod accounts;
+#[cfg(test)]
+mod begin;
+#[cfg(test)]
+mod examples;
+#[cfg(test)]
+mod fitting;
+#[cfg(test)]
+mod inputs;
+#[cfg(test)]
+mod lists;

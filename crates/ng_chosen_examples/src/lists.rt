@@ -1,0 +1,49 @@
+// Lists of moves by a rule: whatever the moves, each item is applied, dropped or pending, and once.
+use crate::begin::{boxes, play, ports};
+use crate::examples::GIVEN;
+use crate::inputs::inputs;
+use ng_pool::Move;
+use std::alloc::Global;
+use std::test::Fail;
+
+// The seven moves that the rule chooses from.
+const MOVES: [Move; 7] = [
+    Move::Feed,
+    Move::Take { seat: 0 },
+    Move::Apply { seat: 0 },
+    Move::Take { seat: 1 },
+    Move::Apply { seat: 1 },
+    Move::Back { seat: 0 },
+    Move::Back { seat: 1 },
+];
+
+// 200 moves: each is that of a number's rest by seven, and the number goes on from the list's own by a rule.
+fn moves(alloc: Global, list: u32) -> Result<Vec<Move>, Fail> {
+    let mut moves = Vec::new(alloc);
+    let mut number = u64::from(list);
+    for _ in 0..200 {
+        number = (75 * (number % 65_537) + 74) % 65_537;
+        moves.push(MOVES[(number % 7) as usize])?;
+    }
+    Ok(moves)
+}
+
+#[test]
+fn each_item_is_accounted_for(rt: HostRuntime) -> Result<(), Fail> {
+    let alloc = rt.alloc();
+    for (count, given) in GIVEN {
+        for list in 0..20 {
+            let run = play(
+                alloc,
+                ports(alloc, count)?,
+                boxes(alloc)?,
+                2,
+                inputs(alloc, given)?,
+                &moves(alloc, list)?,
+            )?;
+            assert!(rt; run.ended, "list {list}");
+            assert!(rt; run.accounted, "list {list}");
+        }
+    }
+    Ok(())
+}
