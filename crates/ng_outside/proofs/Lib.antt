@@ -1,2 +1,4 @@
 pub mod Prefixes
 pub mod Moves
+pub mod Changes
+pub mod Anew

@@ -9,7 +9,8 @@ use Rattle.std.specs.Str.{bytes_eq}
 use Rattle.ng_outside.specs.declared.memory_files.MemFile.{MemFile}
 use Rattle.ng_outside.specs.Read.{ReadsAt}
 use Rattle.std.proofs.lemmas.Slice.Eq.{bytes_eq-Decides}
-use Rattle.ng_outside.specs.Memory.{FileState, file_state, file_named, moved_count, Gives, NamesDiffer}
+use Rattle.ng_outside.specs.Contents.{IfHolds}
+use Rattle.ng_outside.specs.Memory.{FileState, file_state, file_named, contents_of, moved_count, Gives, NamesDiffer}
 
 find-map : {A B : Type 0} (f : A → B) (test : B → Bool) (xs : List A)
     → find test (map f xs) ≡ option_map f (find (λ x. test (f x)) xs)
@@ -21,7 +22,7 @@ pub file_named_map : (files : List MemFile) (name : List ℕ)
     → file_named (map file_state files) name ≡ option_map file_state (find (λ file. bytes_eq (string_bytes file.name) name) files)
 file_named_map files name = find-map file_state (λ file. bytes_eq file.name name) files
 
-moved_some : (slow : Bool) (len most : ℕ) → 0 < len → moved_count slow len most ≡ 0 → most ≡ 0
+pub moved_some : (slow : Bool) (len most : ℕ) → 0 < len → moved_count slow len most ≡ 0 → most ≡ 0
 moved_some true len most some none = omega arith
 moved_some false len most some none = omega arith
 
@@ -45,7 +46,7 @@ gives_reads file at old new count some gives =
 -- so a read that gives what a file in memory has gives what every file is to give
 pub named_reads : (found : Option FileState) (at : ℕ) (old new : List ℕ) (count : ℕ) → 0 < length old
     → IfSome found (λ file. Gives file at old new count)
-    → IfSome (option_map (λ file. file.bytes) found) (λ bytes. ReadsAt bytes at new count)
+    → IfHolds (contents_of found) (λ bytes. ReadsAt bytes at new count)
 named_reads None at old new count some gives = tt
 named_reads (Some file) at old new count some gives = gives_reads file at old new count some gives
 

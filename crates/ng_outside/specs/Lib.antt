@@ -1,4 +1,5 @@
 pub mod Count
+pub mod Contents
 pub mod Read
 pub mod Write
 pub mod Memory

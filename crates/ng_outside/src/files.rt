@@ -1,18 +1,20 @@
 // Files, by name.
-ghost use Rattle.std.specs.Prelude.{◌≡◌, ℕ, ◌<◌, ◌≤◌, List, Option, length, IfOk, IfSome, OnErr};
+ghost use Rattle.std.specs.Prelude.{◌≡◌, ◌≢◌, ◌⊎◌, ℕ, ◌<◌, ◌≤◌, List, [], length, take, IfOk, OnOk, OnErr, IsErr};
+ghost use Rattle.ng_outside.specs.Contents.{Contents, NoFile, IfHolds, HoldsNow, Grows, KeptOrBegun};
 ghost use Rattle.ng_outside.specs.Count.{Rose};
 ghost use Rattle.ng_outside.specs.Read.{ReadsAt};
 
 use crate::Failed;
 
-/// Files that are read by name.
+/// Files that are read and written by name.
 ///
-/// An implementation may tell what a name holds. For each name it has a count of faults, which never
-/// falls and stands still at 2^64 - 1; it may give one counter as the count of every name.
+/// An implementation may tell what a name holds; one that tells it before a call tells it after the
+/// call. No call changes what another name holds. For each name there is a count of faults, which
+/// never falls and stands still at 2^64 - 1; an implementation may give one counter as the count of
+/// every name.
 pub trait Files {
-    /// The bytes that a name holds: `None` where the name holds nothing, or the implementation does
-    /// not tell.
-    ghost contents: { Self → List ℕ → Option (List ℕ) };
+    /// What a name holds: its bytes, that there is no such file, or nothing that is told.
+    ghost contents: { Self → List ℕ → Contents };
 
     /// A name's count of faults.
     ghost faults: { Self → List ℕ → ℕ };
@@ -28,8 +30,37 @@ pub trait Files {
         requires { 0 < length into.old }
         ensures within { IfOk result (λ count. count ≤ length into.new) }
         ensures bytes { IfOk result (λ count.
-            IfSome (contents self.old name.now) (λ bytes. ReadsAt bytes at into.new count)) }
+            IfHolds (contents self.old name.now) (λ bytes. ReadsAt bytes at into.new count)) }
+        ensures missing { contents self.old name.now ≡ NoFile → IsErr result }
         ensures same { contents self.new ≡ contents self.old }
+        ensures counts { (other : List ℕ) → faults self.old other ≤ faults self.new other }
+        ensures cause { OnErr result (Rose (faults self.old name.now) (faults self.new name.now)) };
+
+    /// Makes the file `name` hold no bytes. Where there was none, there is one now.
+    ///
+    /// # Errors
+    /// `Failed`, only where the count of this name's faults rose in this call. The file then holds
+    /// what it held, or no bytes.
+    fn fresh(&mut self, name: &str) -> Result<(), Failed>
+        ensures empty { OnOk result (HoldsNow (contents self.old name.now) (contents self.new name.now) []) }
+        ensures stopped { OnErr result (KeptOrBegun (contents self.old name.now) (contents self.new name.now) []) }
+        ensures others { (other : List ℕ) → other ≢ name.now → contents self.new other ≡ contents self.old other }
+        ensures counts { (other : List ℕ) → faults self.old other ≤ faults self.new other }
+        ensures cause { OnErr result (Rose (faults self.old name.now) (faults self.new name.now)) };
+
+    /// Takes a prefix of `bytes`, at least one byte, to the end of the file `name`, and gives its
+    /// length. What the file holds grows by exactly it. The caller offers a piece that is not empty.
+    ///
+    /// # Errors
+    /// `Failed`, only where the count of this name's faults rose in this call. Nothing was taken then.
+    fn append(&mut self, name: &str, bytes: &[u8]) -> Result<usize, Failed>
+        requires { 0 < length bytes.now }
+        ensures some { IfOk result (λ count. 0 < count) }
+        ensures within { IfOk result (λ count. count ≤ length bytes.now) }
+        ensures grown { IfOk result (λ count.
+            Grows (contents self.old name.now) (contents self.new name.now) (take count bytes.now)) }
+        ensures same { OnErr result (contents self.new ≡ contents self.old) }
+        ensures others { (other : List ℕ) → other ≢ name.now → contents self.new other ≡ contents self.old other }
         ensures counts { (other : List ℕ) → faults self.old other ≤ faults self.new other }
         ensures cause { OnErr result (Rose (faults self.old name.now) (faults self.new name.now)) };
 }

@@ -20,11 +20,11 @@ use Rattle.ng_pcap.specs.Spelling.{Head, Entry, HasSpelling, IsCut, IsEntry, IsT
 abbrev pub IsBytes : List ℕ → Type 0
 IsBytes bytes = (i : ℕ) → slice_index bytes i < 256
 
-IsBytes-drop : (n : ℕ) (bytes : List ℕ) → IsBytes bytes → IsBytes (drop n bytes)
+pub IsBytes-drop : (n : ℕ) (bytes : List ℕ) → IsBytes bytes → IsBytes (drop n bytes)
 IsBytes-drop n bytes fits i = rw (get_or-drop n bytes i 0) (fits (n + i))
 
 -- a number is of its field's size
-number-lt : (endian : Endian) (size place : ℕ) (bytes : List ℕ) → IsBytes bytes → number endian size place bytes < 256 ^ size
+pub number-lt : (endian : Endian) (size place : ℕ) (bytes : List ℕ) → IsBytes bytes → number endian size place bytes < 256 ^ size
 number-lt Big size place bytes fits = big_from-lt 0 size (drop place bytes) (IsBytes-drop place bytes fits)
 number-lt Little size place bytes fits = little_from-lt 0 size (drop place bytes) (IsBytes-drop place bytes fits)
 

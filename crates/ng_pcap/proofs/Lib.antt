@@ -4,3 +4,4 @@ pub mod Packets
 pub mod Spelled
 pub mod Whole
 pub mod Written
+pub mod Kept

@@ -1,5 +1,9 @@
 // The real ones, once.
-use crate::{Failed, Files, ReadStop, Sink, StdFiles, StdSink, put_all, read_whole};
+use crate::{
+    Failed, Files, Gate, OpenGate, ReadStop, Sink, StdFiles, StdSink, put_all, read_whole,
+    write_file,
+};
+use ng_base::{ItemId, NodeId};
 use std::io::{ErrorKind, Write};
 use std::test::Fail;
 use std::{env, fs, io, process};
@@ -9,7 +13,7 @@ fn a_real_file_is_read(rt: HostRuntime) -> Result<(), Fail> {
     let name = format!(in rt.alloc(); "ng_outside-{}", process::id(rt.process()))?;
     let path = env::temp_dir(&rt)?.join(rt.alloc(), name.as_str())?;
     fs::write(&rt, path.as_path(), b"hello".as_slice())?;
-    let mut files = StdFiles::new(&rt);
+    let mut files = StdFiles::new(rt.alloc(), &rt);
     let text = path.as_path().to_str().ok_or("a path")?;
     let mut into = [0u8; 3];
     let parts = [
@@ -19,7 +23,14 @@ fn a_real_file_is_read(rt: HostRuntime) -> Result<(), Fail> {
     ];
     let whole = read_whole(rt.alloc(), &mut files, text, 5);
     let too_big = read_whole(rt.alloc(), &mut files, text, 4).err();
+    let begun = files.read(text, 0, &mut into);
     fs::remove_file(&rt, path.as_path())?;
+    assert_eq!(rt; begun, Ok(3));
+    assert_eq!(rt;
+        files.read(text, 3, &mut into),
+        Ok(2),
+        "the file was still open"
+    );
     assert_eq!(rt; parts, [Ok(3), Ok(2), Ok(0)]);
     assert_eq!(rt; whole.expect(&rt, "a file").as_slice(), b"hello".as_slice());
     assert_eq!(rt; too_big, Some(ReadStop::TooBig));
@@ -30,6 +41,38 @@ fn a_real_file_is_read(rt: HostRuntime) -> Result<(), Fail> {
         Some(ReadStop::Fault)
     );
     assert_eq!(rt; files.faults(), 2);
+    Ok(())
+}
+
+#[test]
+fn real_files_are_written_anew(rt: HostRuntime) -> Result<(), Fail> {
+    let folder = env::temp_dir(&rt)?;
+    let name = format!(in rt.alloc(); "ng_outside-written-{}", process::id(rt.process()))?;
+    let path = folder.join(rt.alloc(), name.as_str())?;
+    let text = path.as_path().to_str().ok_or("a path")?;
+    let mut files = StdFiles::new(rt.alloc(), &rt);
+    for bytes in ["hello there", "", "hello"] {
+        assert_eq!(rt; write_file(&mut files, text, bytes.as_bytes()), Ok(()));
+        assert_eq!(rt; fs::read(&rt, path.as_path())?.as_slice(), bytes.as_bytes());
+    }
+    assert_eq!(rt; files.append(text, b", again"), Ok(7));
+    let mut later = StdFiles::new(rt.alloc(), &rt);
+    assert_eq!(rt;
+        later.append(text, b"!"),
+        Ok(1),
+        "a file that was not begun is written at its end"
+    );
+    let whole = fs::read(&rt, path.as_path())?;
+    fs::remove_file(&rt, path.as_path())?;
+    assert_eq!(rt; whole.as_slice(), b"hello, again!".as_slice());
+    let folder_text = folder.as_path().to_str().ok_or("a path")?;
+    assert_eq!(rt;
+        write_file(&mut files, folder_text, b"a"),
+        Err(Failed),
+        "a folder is no file"
+    );
+    assert_eq!(rt; files.faults(), 1);
+    OpenGate.pass(NodeId(1), ItemId(1));
     Ok(())
 }
 
