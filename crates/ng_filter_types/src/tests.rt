@@ -166,6 +166,27 @@ fn etf_of_two(alloc: Global) -> Result<EtfNode, Fail>
     Ok(node)
 }
 
+// The errors that setfilter of each hook and ethertype tells, in order.
+fn set_each(node: &mut EtfNode, alloc: Global, filters: &[(&[u8], u16)]) -> Result<Vec<Errno>, Fail>
+    ensures { OnOk result (node.new.hooks ≡ node.old.hooks) }
+{
+    let mut told = Vec::new(alloc);
+    for (hook, ethertype) in filters {
+        let args = filter(alloc, hook, *ethertype)?;
+        told.push(tell_etf(node, alloc, SET, &args)?.errno)?;
+    }
+    Ok(told)
+}
+
+// 4,095 filters of `ip`, from the least ethertype on.
+fn filters_of_ip(alloc: Global) -> Result<Vec<(&'static [u8], u16)>, Fail> {
+    let mut filters: Vec<(&[u8], u16)> = Vec::new(alloc);
+    for ethertype in 1_536..5_631 {
+        filters.push((b"ip", ethertype))?;
+    }
+    Ok(filters)
+}
+
 // The same with the filter of IP.
 fn etf_of_ip(alloc: Global) -> Result<EtfNode, Fail>
     ensures { IfOk result (λ node. node.hooks ≡ downstream ∷ codes "ip" ∷ []) }
@@ -184,6 +205,21 @@ fn macset_of_three(alloc: Global) -> Result<MacsetNode, Fail>
     node.newhook(alloc, &known_hook())?;
     node.newhook(alloc, &other_hook())?;
     Ok(node)
+}
+
+// The error that add or del of an address tells.
+fn change_set(
+    node: &mut MacsetNode,
+    alloc: Global,
+    is_added: bool,
+    address: &[u8; 6],
+) -> Result<Errno, Fail> {
+    let told = if is_added {
+        tell_macset(node, alloc, SET, address)?
+    } else {
+        tell_macset(node, alloc, DELETE, address)?
+    };
+    Ok(told.errno)
 }
 
 // The same with the address 02:00:00:00:00:0a.
@@ -251,6 +287,41 @@ fn filters_are_refused(rt: HostRuntime) -> Result<(), Fail> {
         let args = filter(alloc, hook, ethertype)?;
         assert_eq!(rt; tell_etf(&mut node, alloc, SET, &args)?.errno, errno);
     }
+    Ok(())
+}
+
+// 4,096 filters are all: until a hook goes with its filter, and then one more is taken.
+#[test]
+fn a_full_table_takes_no_filter(rt: HostRuntime) -> Result<(), Fail> {
+    let alloc = rt.alloc();
+    let arp = Name::read(b"arp")?;
+    let mut node = etf_of_two(alloc)?;
+    node.newhook(alloc, &arp)?;
+    let last = set_each(&mut node, alloc, &[(b"arp", 0x86dd)])?;
+    assert_eq!(rt; last.as_slice(), [Errno::NONE].as_slice());
+    let taken = set_each(&mut node, alloc, &filters_of_ip(alloc)?)?;
+    assert!(rt; taken.iter().all(|errno| *errno == Errno::NONE));
+    let more: [(&[u8], u16); 5] = [
+        (b"ip", 0x8100),
+        (b"ip", 1_536),
+        (b"ip", 0x86dd),
+        (b"absent", 0x8100),
+        (b"ip", 1_535),
+    ];
+    let refused = [
+        Errno::NFILE,
+        Errno::EXIST,
+        Errno::EXIST,
+        Errno::NOENT,
+        Errno::INVAL,
+    ];
+    assert_eq!(rt;
+        set_each(&mut node, alloc, &more)?.as_slice(),
+        refused.as_slice()
+    );
+    node.cut(&arp);
+    let again = set_each(&mut node, alloc, &[(b"ip", 0x86dd), (b"ip", 0x8100)])?;
+    assert_eq!(rt; again.as_slice(), [Errno::NONE, Errno::NFILE].as_slice());
     Ok(())
 }
 
@@ -329,5 +400,32 @@ fn addresses_are_told(rt: HostRuntime) -> Result<(), Fail> {
     let told = node.answer(alloc, &message(alloc, MACSET, GET_TABLE, &[])?)?;
     let table = [2, 0, 0, 0, 0, 255, 0, 0, 0, 0, 2, 0, 0, 0, 0, 11];
     assert!(rt; has_answer(&told, &table));
+    Ok(())
+}
+
+// 4,096 addresses are all: until one is deleted, and then one more is taken.
+#[test]
+fn a_full_set_takes_no_address(rt: HostRuntime) -> Result<(), Fail> {
+    let alloc = rt.alloc();
+    let mut node = blank_macset(alloc)?;
+    for number in 0..4_096u16 {
+        let [high, low] = number.to_be_bytes();
+        let errno = change_set(&mut node, alloc, true, &[2, 0, 0, 0, high, low])?;
+        assert_eq!(rt; errno, Errno::NONE);
+    }
+    let changes: [(bool, [u8; 6], Errno); 9] = [
+        (true, [2, 0, 0, 0, 16, 0], Errno::NFILE),
+        (true, [2, 0, 0, 0, 15, 255], Errno::EXIST),
+        (true, [2, 0, 0, 0, 0, 0], Errno::EXIST),
+        (true, [3, 0, 0, 0, 16, 0], Errno::INVAL),
+        (false, [2, 0, 0, 0, 16, 0], Errno::NOENT),
+        (true, [2, 0, 0, 0, 16, 0], Errno::NFILE),
+        (false, [2, 0, 0, 0, 0, 0], Errno::NONE),
+        (true, [2, 0, 0, 0, 16, 0], Errno::NONE),
+        (true, [2, 0, 0, 0, 0, 0], Errno::NFILE),
+    ];
+    for (is_added, address, errno) in changes {
+        assert_eq!(rt; change_set(&mut node, alloc, is_added, &address)?, errno);
+    }
     Ok(())
 }

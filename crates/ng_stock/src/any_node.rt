@@ -1,0 +1,119 @@
+// A node of any of the types.
+ghost use Rattle.ng_stock.specs.Any.{any_state};
+
+use ng_base::{Errno, Kind, Name, NoMemory};
+use ng_bpf_type::BpfNode;
+use ng_bridge_type::BridgeNode;
+use ng_edge_types::{EtherNode, SocketNode};
+use ng_filter_types::{EtfNode, MacsetNode};
+use ng_machine::{Body, Counts, Farewell, Outcome};
+use ng_message::Msg;
+use ng_node::Node;
+use ng_one2many_type::One2manyNode;
+use ng_patch_type::PatchNode;
+use ng_plan::Plan;
+use ng_simple_types::{EchoNode, HoleNode, HubNode, SplitNode};
+use ng_tee_type::TeeNode;
+use ng_vlan_type::VlanNode;
+use std::alloc::Global;
+use std::sync::Arc;
+
+/// A node of one of the types.
+#[derive(Drop)]
+pub enum AnyNode {
+    /// ng_hub(4)
+    Hub(HubNode),
+    /// ng_hole(4)
+    Hole(HoleNode),
+    /// ng_echo(4)
+    Echo(EchoNode),
+    /// ng_tee(4)
+    Tee(TeeNode),
+    /// ng_split(4)
+    Split(SplitNode),
+    /// ng_one2many(4)
+    One2many(One2manyNode),
+    /// ng_bridge(4)
+    Bridge(BridgeNode),
+    /// ng_vlan(4)
+    Vlan(VlanNode),
+    /// ng_patch(4)
+    Patch(PatchNode),
+    /// ng_bpf(4)
+    Bpf(BpfNode),
+    /// ng_ether(4)
+    Ether(EtherNode),
+    /// ng_socket(4)
+    Socket(SocketNode),
+    /// ng_etf(4)
+    Etf(EtfNode),
+    /// ng_macset(4)
+    Macset(MacsetNode),
+}
+
+// The node of whichever type, in a call.
+macro_rules! each {
+    ($any:expr, $node:ident => $call:expr) => {
+        match $any {
+            AnyNode::Hub($node) => $call,
+            AnyNode::Hole($node) => $call,
+            AnyNode::Echo($node) => $call,
+            AnyNode::Tee($node) => $call,
+            AnyNode::Split($node) => $call,
+            AnyNode::One2many($node) => $call,
+            AnyNode::Bridge($node) => $call,
+            AnyNode::Vlan($node) => $call,
+            AnyNode::Patch($node) => $call,
+            AnyNode::Bpf($node) => $call,
+            AnyNode::Ether($node) => $call,
+            AnyNode::Socket($node) => $call,
+            AnyNode::Etf($node) => $call,
+            AnyNode::Macset($node) => $call,
+        }
+    };
+}
+
+/// A call goes to the node of the type.
+impl Node for AnyNode {
+    ghost state = { any_state };
+
+    fn kind(&self) -> Kind {
+        each!(self, node => node.kind())
+    }
+
+    fn may(&self, hook: &Name) -> Result<(), Errno> {
+        each!(self, node => node.may(hook))
+    }
+
+    fn newhook(&mut self, alloc: Global, hook: &Name) -> Result<(), NoMemory> {
+        each!(self, node => node.newhook(alloc, hook))
+    }
+
+    fn cut(&mut self, hook: &Name) {
+        each!(self, node => node.cut(hook))
+    }
+
+    fn lasting(&self) -> bool {
+        each!(self, node => node.lasting())
+    }
+
+    fn plan(&self, alloc: Global) -> Result<Option<Arc<Plan>>, NoMemory> {
+        each!(self, node => node.plan(alloc))
+    }
+
+    fn absorb(&mut self, counts: &Counts) {
+        each!(self, node => node.absorb(counts))
+    }
+
+    fn answer(&self, alloc: Global, msg: &Msg) -> Result<Outcome, NoMemory> {
+        each!(self, node => node.answer(alloc, msg))
+    }
+
+    fn write(&mut self, alloc: Global, body: &Body) -> Result<Outcome, NoMemory> {
+        each!(self, node => node.write(alloc, body))
+    }
+
+    fn farewell(&self) -> Farewell {
+        each!(self, node => node.farewell())
+    }
+}

@@ -1,0 +1,12 @@
+//! The blank nodes that the program has: how many of which types.
+#![tactic(auto)]
+
+mod any_node;
+mod blanks;
+mod laws;
+#[cfg(test)]
+mod tests;
+
+pub use any_node::AnyNode;
+pub use blanks::stock;
+pub use laws::stock_suffices;
