@@ -1,193 +1,172 @@
--- From the print to the end of the run, and from there to the end of the call.
-use Rattle.std.proofs.Common.{◌≡◌, inl, inr, ℕ, ◌+◌, ◌<◌, ◌≤◌, ◌^◌, Bool, List, [], ◌∷◌, length, replicate, Option, Some, None, IfSome, sym, ap, subst, ◌∙◌, refl, arith}
-use Rattle.std.proofs.lemmas.List.{length-map, length-replicate}
+-- How a call ends that has read.
+use Rattle.std.proofs.Common.{◌≡◌, ◌≤◌, ◌⊎◌, ◌∙◌, inl, inr, ℕ, if◌then◌else◌, List, [], ◌∷◌, ◌++◌, length, map, Option, Some, None, refl, sym, ap, subst}
+use Rattle.std.specs.List.{list_any}
 use Rattle.ng_base.specs.declared.event.Event.{Event}
 use Rattle.ng_base.specs.declared.kind.Kind.{Kind}
 use Rattle.ng_machine.specs.declared.command.Command.{Command}
-use Rattle.ng_machine.specs.declared.command.What.{What}
-use Rattle.ng_machine.specs.declared.command.What.TheVariants.{Bad, Config, Connect, Help, List as Lists, Mkpeer, Msg, Name, Quit, Rmhook, Show, Shutdown, Status, Types, Write}
 use Rattle.ng_machine.specs.declared.input.Input.{Input}
-use Rattle.ng_machine.specs.declared.told.Told.{Told}
-use Rattle.ng_machine.specs.declared.told.Told.TheVariants.{Line, Refused, Help as ToldHelp, Answer, Frame}
-use Rattle.ng_machine.specs.declared.totals.Totals.{Totals}
-use Rattle.ng_machine.specs.Orderly.{IsOrderly}
-use Rattle.ng_machine.specs.Plain.{IsPlain}
-use Rattle.ng_machine.specs.Run.{run}
-use Rattle.ng_machine.specs.Totals.{totals_of}
+use Rattle.ng_machine.specs.Laws.{IsJournal, world_after}
 use Rattle.ng_machine.specs.World.{World}
-use Rattle.std.specs.List.{AllByRecursion}
-use Rattle.ngctl_words.specs.Form.{IsInForm, IsEchoMade, IsWriteTo, IsEchoThenWrites, IsPacketShort, EveryPacketFits}
-use Rattle.ngctl_words.specs.Line.{hook_of}
-use Rattle.ngctl_words.proofs.Packets.{script_packets_fit}
-use Rattle.ngctl_print.specs.Fits as print
-use Rattle.ng_core.specs.Built.{AllToldBuilt, InputsBuilt, MakesHere, WhatBuilt}
-use Rattle.ng_core.specs.Going.{Messages, given, ends_stopped}
-use Rattle.ngctl_words.specs.Script.{IsScript, IsUnbuilt}
-use Rattle.ngctl_print.specs.Text.{text_of}
+use Rattle.ng_pcap.specs.declared.capture.Capture.{Capture}
+use Rattle.ngctl_script.specs.Script.{commands_of}
+use Rattle.ngctl_text.specs.Text.{world_text}
+use Rattle.ng_words.specs.Run.{ports_from}
+use Rattle.ng_words.specs.declared.port.PortWord.{PortWord}
+use Rattle.ng_words.specs.declared.words.Words.{Words}
+use Rattle.ng_ends.specs.Outside.{Outside, Same}
+use Rattle.ng_ends.specs.Steps.{first_fault, Refuses}
+use Rattle.ng_ends.specs.Ends.{Ends}
+use Rattle.ng_ends.proofs.Counts.{rose_since}
+use Rattle.ng_ends.proofs.Lists.{refuses_within}
+use Rattle.ng_outside.specs.Contents.{Contents}
+use Rattle.ng_ends.specs.Writes.{Write, WritesAll, StopsAt, StopsFor}
 use Rattle.ng_run.specs.declared.ended.Fault.{Fault}
-use Rattle.ng_run.specs.declared.ended.Fault.TheVariants.{Usage, Script, TooBig, ReadFault, WriteFault, NoMemory}
-use Rattle.ng_run.specs.declared.ended.Which.TheVariants.{Sink, Script as OfScript}
-use Rattle.ng_run.specs.Inputs.{inputs_of, given_of, start, budget, world_of, text_at, run_text}
-use Rattle.ngctl_words.specs.declared.fault.ScriptFault.TheVariants.{Unbuilt}
-use Rattle.ng_outside.specs.Count.{Rose}
-use Rattle.ng_run.specs.Ends.{SinkChange, Silent, most_script, PrintEnds, IsPlainRun, IsOrderlyRun, EndsRun, EndsOn, Ends, EndsBy}
+use Rattle.ng_run.specs.declared.ended.Fault.TheVariants.{NoMemory}
+use Rattle.ng_run.specs.Found.{Found, captures_in}
+use Rattle.ng_run.specs.Run.{setting_of, setting_in, inputs_in, world_in, IsRun}
+use Rattle.ng_run.specs.Writes.{is_stop, is_error, shown_by, text_write, out_writes, journal_writes, writes_in}
+use Rattle.ng_run.specs.Parts.{of_files, storing, outside, counting, Stops, AllStop}
+use Rattle.ng_run.proofs.Reading.{memory_all}
+use Rattle.ng_run.proofs.Writing.{since}
+use Rattle.ng_run.specs.Ends.{IsFound, EndsBy, EndsWith, call_of, steps_in, fault_status}
 
--- A script asks for what is built
+module _ (kinds : List Kind) (w : Words) (o : Outside) (found : Found) (is : IsFound o.old.files w.source found) where
+  -- memory ran out before the run
+  pub memory_refuses : Same o.old o.now → (status : ℕ) (journal : List Event) (fault : Option Fault) → status ≡ 71 → journal ≡ []
+      → fault ≡ Some NoMemory → EndsWith kinds w o status journal fault
+  memory_refuses same status journal fault a b c = rw (a, b, c) (record {
+    found = found;
+    is_found = is;
+    ends = inl (record { nothing = refl; same = same; cause = inl refl });
+    status_is = refl;
+  })
 
-made_built : (what : What) → IsEchoMade what → WhatBuilt what
-made_built (Mkpeer path kind_name hook peerhook) made = subst MakesHere (sym made.0) refl
-made_built (Write hook bytes) made = absurd made
-made_built (Bad why) made = absurd made
-made_built (Config path args) made = absurd made
-made_built (Connect path relpath hook peerhook) made = absurd made
-made_built (Help command) made = absurd made
-made_built (Lists named) made = absurd made
-made_built (Msg path command args) made = absurd made
-made_built (Name path name) made = absurd made
-made_built Quit made = absurd made
-made_built (Rmhook path hook) made = absurd made
-made_built (Show brief path) made = absurd made
-made_built (Shutdown path) made = absurd made
-made_built (Status path) made = absurd made
-made_built Types made = absurd made
+  module _ (fine : first_fault o.old.files (steps_in w.source found) ≡ None) (inputs : List Input) (inputs_are : inputs ≡ inputs_in found) where
+    -- in it
+    pub memory_cuts : Same o.old o.now → (events journal : List Event) → IsJournal (setting_of kinds w inputs) events → journal ≡ events
+        → EndsWith kinds w o 71 journal (Some NoMemory)
+    memory_cuts same events journal part e = record {
+      found = found;
+      is_found = is;
+      ends = inr (inl (record {
+        passed = fine;
+        part =
+            subst (λ (l : List Event). IsJournal (setting_in kinds w found) l) (sym e)
+            (subst (λ (l : List Input). IsJournal (setting_of kinds w l) events) inputs_are part);
+        same = same;
+        cause = refl;
+      }));
+      status_is = refl;
+    }
 
-written_built : (to : List ℕ) (what : What) → IsWriteTo to what → IsPacketShort what → WhatBuilt what
-written_built to (Write hook bytes) write short = omega arith
-written_built to (Mkpeer path kind_name hook peerhook) write short = absurd write
-written_built to (Bad why) write short = absurd write
-written_built to (Config path args) write short = absurd write
-written_built to (Connect path relpath hook peerhook) write short = absurd write
-written_built to (Help command) write short = absurd write
-written_built to (Lists named) write short = absurd write
-written_built to (Msg path command args) write short = absurd write
-written_built to (Name path name) write short = absurd write
-written_built to Quit write short = absurd write
-written_built to (Rmhook path hook) write short = absurd write
-written_built to (Show brief path) write short = absurd write
-written_built to (Shutdown path) write short = absurd write
-written_built to (Status path) write short = absurd write
-written_built to Types write short = absurd write
+    module _ (events journal : List Event) (world : World) (ran : IsRun (setting_of kinds w inputs) w.workers events)
+        (world_is : world ≡ world_after (setting_of kinds w inputs) events) (e : journal ≡ events)
+        (commands : List Command) (commands_are : commands ≡ map (λ timed. timed.1) (commands_of found.script))
+        (ports : List PortWord) (ports_are : ports ≡ ports_from w.source)
+        (cuts : List (Option ℕ)) (cuts_are : cuts ≡ map (λ (capture : Capture). capture.cut) (captures_in found.captures))
+        (of : ℕ) (of_is : of ≡ length inputs) where
+      has_run : IsRun (setting_in kinds w found) w.workers journal
+      has_run =
+          subst (λ (l : List Event). IsRun (setting_in kinds w found) w.workers l) (sym e)
+          (subst (λ (l : List Input). IsRun (setting_of kinds w l) w.workers events) inputs_are ran)
 
-others_built : (to : List ℕ) (commands : List Command) → AllByRecursion (λ (command : Command). IsWriteTo to command.what) commands → EveryPacketFits commands → InputsBuilt (inputs_of commands)
-others_built to [] write short = tt
-others_built to (command ∷ commands) write short = (written_built to command.what write.0 short.0, others_built to commands write.1 short.1)
+      world_found : world ≡ world_in kinds w found journal
+      world_found =
+          world_is
+          ∙ ap (λ (l : List Input). world_after (setting_of kinds w l) events) inputs_are
+          ∙ ap (λ (l : List Event). world_in kinds w found l) (sym e)
 
-built_from : (commands : List Command) → IsEchoThenWrites commands → EveryPacketFits commands → InputsBuilt (inputs_of commands)
-built_from [] order short = tt
-built_from (first ∷ commands) order short = (made_built first.what order.0, others_built (hook_of first.what) commands order.1 short.1)
+      writes_are : text_write (world_text commands (shown_by ports cuts) of world (list_any is_stop events)) ∷ (out_writes 0 ports world.ports ++ journal_writes w.journal events)
+          ≡ writes_in kinds w found journal
+      writes_are = rw (commands_are, ports_are, cuts_are, of_is ∙ ap length inputs_are, world_found, sym e) refl
 
-pub inputs_built : (commands : List Command) → IsInForm commands → InputsBuilt (inputs_of commands)
-inputs_built commands form = built_from commands form.order (script_packets_fit commands form)
+      pub write_stops : (status : ℕ) (fault : Fault) → status ≡ fault_status fault
+          → StopsAt (StopsFor NoMemory o fault)
+          (text_write (world_text commands (shown_by ports cuts) of world (list_any is_stop events)) ∷ (out_writes 0 ports world.ports ++ journal_writes w.journal events)) o.old o.now
+          → EndsWith kinds w o status journal (Some fault)
+      write_stops status fault status_is stops = record {
+        found = found;
+        is_found = is;
+        ends = inr (inr (record {
+          passed = fine;
+          ran = has_run;
+          stops = subst (λ (ws : List (Write Fault)). StopsAt (StopsFor NoMemory o fault) ws o.old o.now) writes_are stops;
+        }));
+        status_is = status_is;
+      }
 
-pub few_inputs : (commands : List Command) → IsInForm commands → length (inputs_of commands) < 2 ^ 32
-few_inputs commands form = let few = form.few in simp length-map (omega arith)
+      pub all_done : (status : ℕ) → status ≡ (if list_any is_stop events then 2 else if list_any is_error world.told then 1 else 0)
+          → WritesAll
+          (text_write (world_text commands (shown_by ports cuts) of world (list_any is_stop events)) ∷ (out_writes 0 ports world.ports ++ journal_writes w.journal events)) o.old o.now
+          → EndsWith kinds w o status journal None
+      all_done status status_is all = record {
+        found = found;
+        is_found = is;
+        ends = record {
+          passed = fine;
+          ran = has_run;
+          written = subst (λ (ws : List (Write Fault)). WritesAll ws o.old o.now) writes_are all;
+        };
+        status_is = status_is ∙ (rw (world_found, sym e) refl);
+      }
 
-pub inputs_length : (commands : List Command) → length (inputs_of commands) ≡ length commands
-inputs_length commands = rw length-map refl
+-- The same since before the files were read
 
--- What is told can be printed
+module _ (kinds : List Kind) (w : Words) (sink next : Option (List ℕ)) (last : List ℕ → Contents) (sb sa : ℕ)
+    (before middle after : List ℕ → ℕ) (counts : (other : List ℕ) → before other ≤ middle other) where
+  module _ (old : List ℕ → Contents) (found : Found) (journal : List Event) where
+    caused : (fault : Fault)
+        → (fault ≡ NoMemory) ⊎ Refuses (outside (storing sink old) (storing next last) (counting sb middle) (counting sa after)) (steps_in w.source found) fault
+        → (fault ≡ NoMemory) ⊎ Refuses (outside (storing sink old) (storing next last) (counting sb before) (counting sa after)) (steps_in w.source found) fault
+    caused fault (inl memory) = inl memory
+    caused fault (inr refuses) =
+        inr (refuses_within (outside (storing sink old) (storing next last) (counting sb middle) (counting sa after))
+        (outside (storing sink old) (storing next last) (counting sb before) (counting sa after)) refl
+        (λ name rose. rose_since (before name) (middle name) (after name) (counts name) rose) (steps_in w.source found) fault refuses)
 
-pub told_prints : (told : List Told) → AllToldBuilt told → print.AllToldFit told
-told_prints [] built = tt
-told_prints (Line command ∷ told) built = (tt, told_prints told built.1)
-told_prints (Refused command errno why ∷ told) built = (tt, told_prints told built.1)
-told_prints (ToldHelp command ∷ told) built = absurd built.0
-told_prints (Answer command from cookie number bytes ∷ told) built = absurd built.0
-told_prints (Frame hook packet ∷ told) built = (built.0, told_prints told built.1)
+    ends_more : (fault : Option Fault)
+        → Ends (call_of kinds w found) (outside (storing sink old) (storing next last) (counting sb middle) (counting sa after)) journal fault
+        → Ends (call_of kinds w found) (outside (storing sink old) (storing next last) (counting sb before) (counting sa after)) journal fault
+    ends_more None e = record { passed = e.passed; ran = e.ran; written = e.written }
+    ends_more (Some fault) (inl e) = inl (record { nothing = e.nothing; same = e.same; cause = caused fault e.cause })
+    ends_more (Some fault) (inr (inl e)) = inr (inl (record { passed = e.passed; part = e.part; same = e.same; cause = e.cause }))
+    ends_more (Some fault) (inr (inr e)) =
+        inr (inr (record {
+          passed = e.passed;
+          ran = e.ran;
+          stops = since (writes_in kinds w found journal) sink next old last before middle after sb sa fault counts e.stops;
+        }))
 
--- The text is that of the world
+  pub ends_since : (old mid : List ℕ → Contents) (status : ℕ) (journal : List Event) (fault : Option Fault) → mid ≡ old
+      → EndsWith kinds w (outside (storing sink mid) (storing next last) (counting sb middle) (counting sa after)) status journal fault
+      → EndsWith kinds w (outside (storing sink old) (storing next last) (counting sb before) (counting sa after)) status journal fault
+  ends_since old mid status journal fault same e =
+      let at : EndsWith kinds w (outside (storing sink old) (storing next last) (counting sb middle) (counting sa after)) status journal fault =
+      subst (λ (f : List ℕ → Contents). EndsWith kinds w (outside (storing sink f) (storing next last) (counting sb middle) (counting sa after)) status journal fault) same e in
+      record { found = at.found; is_found = at.is_found; ends = ends_more old at.found journal fault at.ends; status_is = at.status_is }
 
-pub text_is : (script : List Command) (w : World) (stopped : Bool) (told : List Told) (totals : Totals) (fed of : ℕ) → told ≡ w.told → totals ≡ totals_of w → fed ≡ w.fed → of ≡ length script
-    → text_of script told totals fed of stopped ≡ text_at script w stopped
-text_is script w stopped told totals fed of t u f o =
-    let all : of ≡ length (inputs_of script) = o ∙ sym (inputs_length script) in
-    rw (t, u, f, all) refl
+-- a read that stopped
+pub read_stops : (kinds : List Kind) (w : Words) (sink : Option (List ℕ)) (old last : List ℕ → Contents) (before after : List ℕ → ℕ) (sb : ℕ)
+    (status : ℕ) (journal : List Event) (fault : Option Fault) (found : Fault) → AllStop (of_files old last before after) w.source found
+    → last ≡ old → status ≡ fault_status found → journal ≡ [] → fault ≡ Some found
+    → EndsWith kinds w (outside (storing sink old) (storing sink last) (counting sb before) (counting sb after)) status journal fault
+read_stops kinds w sink old last before after sb status journal fault found (read, is_found, stops) same a b c =
+    rw (b, c) (record {
+      found = read;
+      is_found = is_found;
+      ends = inl (record { nothing = refl; same = record { sink = refl; files = same }; cause = placed stops });
+      status_is = a;
+    })
+  where
+    placed : Stops (of_files old last before after) (steps_in w.source read) found
+        → (found ≡ NoMemory) ⊎ Refuses (outside (storing sink old) (storing sink last) (counting sb before) (counting sb after)) (steps_in w.source read) found
+    placed (inl memory) = inl memory
+    placed (inr refuses) =
+        inr (refuses_within (of_files old last before after) (outside (storing sink old) (storing sink last) (counting sb before) (counting sb after)) refl
+        (λ name rose. rose) (steps_in w.source read) found refuses)
 
--- The run
-
-module _ (messages : Messages) (kinds : List Kind) (script : List Command) (sink : SinkChange) (status : ℕ) (journal : List Event) where
-  pub run_ends : (fault : Option Fault) (inputs : List Input) (w0 w : World) (stopped : Bool)
-      → inputs ≡ inputs_of script → w0 ≡ start kinds → IsPlain w0 (given inputs messages) budget journal → w ≡ run (given inputs messages) w0 journal → stopped ≡ ends_stopped journal
-      → PrintEnds (text_at script w stopped) stopped sink status fault → EndsRun messages kinds script sink status journal fault
-  run_ends fault inputs w0 w stopped i s plain world is printed =
-      let plain_at : IsPlainRun messages kinds script journal = rw (← s, ← i) plain in
-      let world_at : w ≡ world_of messages kinds script journal = world ∙ ap (λ (l : List Input). run (given l messages) w0 journal) i ∙ ap (λ (u : World). run (given_of messages script) u journal) s in
-      by_fault fault plain_at (rw (← world_at, ← is) printed)
-    where
-      by_fault : (fault : Option Fault) → IsPlainRun messages kinds script journal → PrintEnds (run_text messages kinds script journal) (ends_stopped journal) sink status fault → EndsRun messages kinds script sink status journal fault
-      by_fault None plain_at p = (p.0, plain_at, p.1)
-      by_fault (Some (WriteFault Sink)) plain_at p = (p.0, plain_at, p.1, p.2)
-      by_fault (Some (WriteFault OfScript)) plain_at p = p
-      by_fault (Some NoMemory) plain_at p = (p.0, plain_at.orderly, inr (plain_at, p.1))
-      by_fault (Some Usage) plain_at p = p
-      by_fault (Some (Script fault)) plain_at p = p
-      by_fault (Some (TooBig which)) plain_at p = p
-      by_fault (Some (ReadFault which)) plain_at p = p
-
-pub run_cut_short : (messages : Messages) (kinds : List Kind) (script : List Command) (journal : List Event) (inputs : List Input) (w0 : World) → inputs ≡ inputs_of script → w0 ≡ start kinds → IsOrderly w0 (given inputs messages) budget 1 journal → IsOrderlyRun messages kinds script journal
-run_cut_short messages kinds script journal inputs w0 i s orderly = rw (← s, ← i) orderly
-
--- The call
-
-pub call_ends : (messages : Messages) (kinds : List Kind) (bytes : List ℕ) (script : List Command) (rose : Type 0) (sink : SinkChange) (status : ℕ) (journal : List Event) (fault : Option Fault)
-    → length bytes ≤ most_script → IsScript bytes script → EndsRun messages kinds script sink status journal fault → EndsOn messages kinds bytes rose sink status journal fault
-call_ends messages kinds bytes script rose sink status journal None fits read (s, plain, text) = record { status_is = s; ran = record { fits = fits; script = script; read = read; plain = plain }; text = text }
-call_ends messages kinds bytes script rose sink status journal (Some (WriteFault Sink)) fits read (s, plain, front, cause) = record { status_is = s; ran = record { fits = fits; script = script; read = read; plain = plain }; front = front; cause = cause }
-call_ends messages kinds bytes script rose sink status journal (Some (WriteFault OfScript)) fits read e = e
-call_ends messages kinds bytes script rose sink status journal (Some NoMemory) fits read (s, orderly, written) = record { status_is = s; so_far = inr (record { script = script; read = read; orderly = orderly; written = written }) }
-call_ends messages kinds bytes script rose sink status journal (Some Usage) fits read e = e
-call_ends messages kinds bytes script rose sink status journal (Some (Script fault)) fits read e = absurd e
-call_ends messages kinds bytes script rose sink status journal (Some (TooBig which)) fits read e = absurd e
-call_ends messages kinds bytes script rose sink status journal (Some (ReadFault which)) fits read e = absurd e
-
--- Where the file tells nothing, any bytes will do
-
-pub some_bytes : (told : Option (List ℕ)) → (bytes : List ℕ) × IfSome told (λ held. held ≡ bytes)
-some_bytes None = ([], tt)
-some_bytes (Some held) = (held, refl)
-
--- more bytes than any number
-beyond : (n : ℕ) → (bytes : List ℕ) × (n < length bytes)
-beyond n = (replicate (n + 1) 0, let long : length (replicate {A = ℕ} (n + 1) 0) ≡ n + 1 = length-replicate (n + 1) 0 in omega arith)
-
-pub many_bytes : (told : Option (List ℕ)) → IfSome told (λ held. most_script < length held) → (bytes : List ℕ) × IfSome told (λ held. held ≡ bytes) × (most_script < length bytes)
-many_bytes None more = let found = beyond most_script in (found.0, tt, found.1)
-many_bytes (Some held) more = (held, refl, more)
-
-pub as_read : (told : Option (List ℕ)) (bytes : List ℕ) → IfSome told (λ held. bytes ≡ held) → IfSome told (λ held. held ≡ bytes)
-as_read None bytes is = tt
-as_read (Some held) bytes is = sym is
-
--- A call whose words name a script
-
-module _ (messages : Messages) (kinds : List Kind) (named : Option (List ℕ)) (name : List ℕ) (is : named ≡ Some name) (held : List ℕ → Option (List ℕ)) (before after : List ℕ → ℕ) (sink : SinkChange) where
-  pub named_ends : (status : ℕ) (journal : List Event) (fault : Option Fault) → Ends messages kinds (held name) (Rose (before name) (after name)) sink status journal fault → EndsBy messages kinds named held before after sink status journal fault
-  named_ends status journal fault e = rw is e
-
-  pub unreadable_ends : (status : ℕ) (journal : List Event) (fault : Option Fault) → status ≡ 66 → journal ≡ [] → fault ≡ Some (ReadFault OfScript) → Silent sink → Rose (before name) (after name)
-      → EndsBy messages kinds named held before after sink status journal fault
-  unreadable_ends status journal fault s j f silent rose =
-      let found = some_bytes (held name) in
-      rw (is, f) (record { bytes = found.0; as_told = found.1; ends = record { status_is = s; refused = record { eventless = j; silent = silent }; cause = rose } })
-
-  pub too_big_ends : (status : ℕ) (journal : List Event) (fault : Option Fault) → status ≡ 65 → journal ≡ [] → fault ≡ Some (TooBig OfScript) → Silent sink → IfSome (held name) (λ bytes. most_script < length bytes)
-      → EndsBy messages kinds named held before after sink status journal fault
-  too_big_ends status journal fault s j f silent more =
-      let found = many_bytes (held name) more in
-      rw (is, f) (record { bytes = found.0; as_told = found.1; ends = record { status_is = s; refused = record { eventless = j; silent = silent }; more = found.2 } })
-
-  pub no_memory_ends : (status : ℕ) (journal : List Event) (fault : Option Fault) → status ≡ 71 → journal ≡ [] → fault ≡ Some NoMemory → Silent sink → EndsBy messages kinds named held before after sink status journal fault
-  no_memory_ends status journal fault s j f silent =
-      let found = some_bytes (held name) in
-      rw (is, f) (record { bytes = found.0; as_told = found.1; ends = record { status_is = s; so_far = inl (record { eventless = j; silent = silent }) } })
-
-  module _ (bytes : List ℕ) (whole : IfSome (held name) (λ told. bytes ≡ told)) (fits : length bytes ≤ most_script) where
-    pub unread_ends : (status line : ℕ) (journal : List Event) (fault : Option Fault) → status ≡ 65 → journal ≡ [] → fault ≡ Some (Script (Unbuilt line)) → Silent sink → IsUnbuilt bytes line
-        → EndsBy messages kinds named held before after sink status journal fault
-    unread_ends status line journal fault s j f silent first =
-        rw (is, f) (record { bytes = bytes; as_told = as_read (held name) bytes whole; ends = record { status_is = s; refused = record { eventless = j; silent = silent }; fits = fits; first = first } })
-
-    pub ran_ends : (script : List Command) (status : ℕ) (journal : List Event) (fault : Option Fault) → IsScript bytes script → EndsRun messages kinds script sink status journal fault
-        → EndsBy messages kinds named held before after sink status journal fault
-    ran_ends script status journal fault read ends =
-        rw is (record { bytes = bytes; as_told = as_read (held name) bytes whole; ends = call_ends messages kinds bytes script (Rose (before name) (after name)) sink status journal fault fits read ends })
+-- memory ran out before anything was read
+pub memory_ends : (kinds : List Kind) (words : Option Words) (o : Outside) → Same o.old o.now → EndsBy kinds words o 71 [] (Some NoMemory)
+memory_ends kinds None o same = record { ends = inl (record { nothing = refl; same = same; cause = inl refl }); status_is = refl }
+memory_ends kinds (Some words) o same =
+    let all = memory_all o words.source in memory_refuses kinds words o all.0 all.1 same 71 [] (Some NoMemory) refl refl refl

@@ -1,119 +1,248 @@
 -- Each answer comes where its cause holds.
-use Rattle.std.proofs.Common.{◌≡◌, inl, inr, ◌↔◌, ℕ, ◌<◌, ◌≤◌, List, length, Option, Some, None, IfSome, refl, sym, subst, arith}
-use Rattle.std.specs.Io.KnownBytes.{Appends}
+use Rattle.std.proofs.Common.{◌≡◌, ◌⊎◌, inl, inr, ◌∙◌, ℕ, List, [], ◌∷◌, Option, Some, None, refl, sym, ap, subst}
 use Rattle.ng_base.specs.declared.event.Event.{Event}
 use Rattle.ng_base.specs.declared.kind.Kind.{Kind}
-use Rattle.ng_machine.specs.declared.command.Command.{Command}
-use Rattle.ng_machine.specs.Orderly.{IsOrderly}
-use Rattle.ng_machine.specs.Plain.{IsPlain}
-use Rattle.ng_core.specs.Going.{Messages}
-use Rattle.ngctl_words.specs.declared.fault.ScriptFault.TheVariants.{Unbuilt, NoMemory as NoMemoryForScript}
-use Rattle.ngctl_words.specs.Script.{IsScript, IsUnbuilt}
-use Rattle.ng_outside.specs.Count.{Rose}
-use Rattle.ng_outside.specs.Write.{AppendsPrefix}
+use Rattle.ng_outside.specs.Contents.{Contents, NotTold, NoFile, Holds}
+use Rattle.ng_words.specs.Run.{words_of}
+use Rattle.ng_words.specs.declared.port.PortWord.{PortWord}
+use Rattle.ng_words.specs.declared.words.Source.{Source}
+use Rattle.ng_words.specs.declared.words.Source.TheVariants.{FromFiles, Made}
+use Rattle.ng_words.specs.declared.words.Words.{Words}
+use Rattle.ng_ends.specs.Outside.{Outside, ToFile, Same}
+use Rattle.ng_ends.specs.Steps.{Step, Reads, Checks, Refuses}
+use Rattle.ng_ends.specs.Ends.{Ends, IsDone, IsRefused, IsStopped}
+use Rattle.ng_ends.specs.Causes.{FailsReading, FailsWriting, NoneReads}
+use Rattle.ng_ends.proofs.Each.{ends_keep, each_written}
+use Rattle.ng_ends.proofs.Rows.{fault_comes, ends_well, reads_only, writes_only, refused_alone, stopped_alone}
 use Rattle.ng_run.specs.declared.ended.Fault.{Fault}
-use Rattle.ng_run.specs.declared.ended.Fault.TheVariants.{Usage, Script, TooBig, ReadFault, WriteFault, NoMemory}
-use Rattle.ng_run.specs.declared.ended.Which.TheVariants.{Sink, Script as OfScript}
-use Rattle.ng_run.specs.Inputs.{given_of, start, budget, run_text}
-use Rattle.ng_run.specs.Ends.{SinkChange, EndsOn, Ends, EndsBy, RunsAs, Comes, status_of, most_script}
+use Rattle.ng_run.specs.declared.ended.Fault.TheVariants.{Usage, Script, Capture, TooBig, ReadFault, WriteFault, NoMemory}
+use Rattle.ng_run.specs.declared.ended.Which.{Which}
+use Rattle.ng_run.specs.Found.{Found, IsRead, AreRead}
+use Rattle.ng_run.specs.Run.{IsRun, setting_in}
+use Rattle.ng_run.specs.Ends.{IsFound, EndsBy, EndsWith, call_of, steps_in, usage}
+use Rattle.ng_run.specs.Exactly.{IsTold, Tell, TellPorts, FaultComes, Completes, DoesAll, UsageComes, KeepsOthers, WritesEach, ReadsOnly, WritesOnly, LeavesPrefix, IsRefusal, RefusesQuietly, HasRun, RunsPlainly}
+use Rattle.ng_run.proofs.Apart.{writes_apart}
+use Rattle.ng_run.proofs.Sorts.{none_checked, none_read, none_written}
 
--- The status
+-- what was read is what the files tell
+told_is : (contents : Contents) (a b : List ℕ) → IsRead contents a → IsTold contents b → a ≡ b
+told_is NotTold a b read told = absurd told
+told_is NoFile a b read told = read ∙ sym told
+told_is (Holds held) a b read told = sym read ∙ told
 
-status_on : (messages : Messages) (kinds : List Kind) (bytes : List ℕ) (rose : Type 0) (sink : SinkChange) (status : ℕ) (journal : List Event) (fault : Option Fault) → EndsOn messages kinds bytes rose sink status journal fault → status ≡ status_of fault journal
-status_on messages kinds bytes rose sink status journal None e = e.status_is
-status_on messages kinds bytes rose sink status journal (Some Usage) e = absurd e
-status_on messages kinds bytes rose sink status journal (Some (Script (Unbuilt line))) e = e.status_is
-status_on messages kinds bytes rose sink status journal (Some (Script NoMemoryForScript)) e = absurd e
-status_on messages kinds bytes rose sink status journal (Some (TooBig OfScript)) e = e.status_is
-status_on messages kinds bytes rose sink status journal (Some (TooBig Sink)) e = absurd e
-status_on messages kinds bytes rose sink status journal (Some (ReadFault OfScript)) e = e.status_is
-status_on messages kinds bytes rose sink status journal (Some (ReadFault Sink)) e = absurd e
-status_on messages kinds bytes rose sink status journal (Some (WriteFault Sink)) e = e.status_is
-status_on messages kinds bytes rose sink status journal (Some (WriteFault OfScript)) e = absurd e
-status_on messages kinds bytes rose sink status journal (Some NoMemory) e = e.status_is
+joined : {X : Type 0} (x y : X) (xs ys : List X) → x ≡ y → xs ≡ ys → x ∷ xs ≡ y ∷ ys
+joined x y xs ys first rest = cc
 
-module _ (messages : Messages) (kinds : List Kind) (held : List ℕ → Option (List ℕ)) (before after : List ℕ → ℕ) (sink : SinkChange) (status : ℕ) (journal : List Event) where
-  pub status_exactly : (named : Option (List ℕ)) (fault : Option Fault) → EndsBy messages kinds named held before after sink status journal fault → status ≡ status_of fault journal
-  status_exactly None fault e = rw e.fault_is e.status_is
-  status_exactly (Some name) fault e = status_on messages kinds e.bytes _ sink status journal fault e.ends
+captures_are : (files : List ℕ → Contents) (ports : List PortWord) (a b : List (Option (List ℕ))) → AreRead files ports a
+    → TellPorts files ports b → a ≡ b
+captures_are files [] [] [] read told = refl
+captures_are files [] [] (y ∷ b) read told = absurd told
+captures_are files [] (x ∷ a) b read told = absurd read
+captures_are files (port ∷ ports) [] b read told = absurd read
+captures_are files (port ∷ ports) (x ∷ a) [] read told = absurd told
+captures_are files (port ∷ ports) (None ∷ a) (None ∷ b) read told = joined None None a b refl (captures_are files ports a b read.1 told.1)
+captures_are files (port ∷ ports) (None ∷ a) (Some y ∷ b) read told = absurd (told.0 read.0)
+captures_are files (port ∷ ports) (Some x ∷ a) (None ∷ b) read told = absurd (read.0 told.0)
+captures_are files (port ∷ ports) (Some x ∷ a) (Some y ∷ b) read told =
+    joined (Some x) (Some y) a b (ap (λ (l : List ℕ). Some l) (told_is (files port.in_file) x y read.1 told.1))
+    (captures_are files ports a b read.2 told.2)
 
-  -- Usage
+abbrev found_in : List ℕ → List (Option (List ℕ)) → Found
+found_in script captures = record { script = script; captures = captures }
 
-  no_usage : (bytes : List ℕ) (rose : Type 0) (fault : Option Fault) → EndsOn messages kinds bytes rose sink status journal fault → fault ≡ Some Usage → ⊥
-  no_usage bytes rose fault e is = let at : EndsOn messages kinds bytes rose sink status journal (Some Usage) = subst (λ (f : Option Fault). EndsOn messages kinds bytes rose sink status journal f) is e in at
+found_eq : (a b : Found) → a.script ≡ b.script → a.captures ≡ b.captures → a ≡ b
+found_eq a b one other =
+    ap (λ (s : List ℕ). found_in s a.captures) one
+    ∙ ap (λ (c : List (Option (List ℕ))). found_in b.script c) other
 
-  pub usage_exactly : (named : Option (List ℕ)) (fault : Option Fault) → EndsBy messages kinds named held before after sink status journal fault → (fault ≡ Some Usage) ↔ (named ≡ None)
-  usage_exactly None fault e = (λ is. refl, λ is. e.fault_is)
-  usage_exactly (Some name) fault e = (λ is. absurd (no_usage e.bytes _ fault e.ends is), λ is. absurd (cc is))
+found_is : (files : List ℕ → Contents) (source : Source) (a b : Found) → IsFound files source a → Tell files source b → a ≡ b
+found_is files (FromFiles script ports) a b is told =
+    found_eq a b (told_is (files script) a.script b.script is.0 told.0) (captures_are files ports a.captures b.captures is.1 told.1)
+found_is files (Made packets) a b is told = is ∙ sym told
 
-  -- The script of these bytes
+-- the sorts of faults
+abbrev IsUsage : Fault → Type 0
+IsUsage fault = fault ≡ Usage
 
-  told_ends : (named : Option (List ℕ)) (fault : Option Fault) (name bytes : List ℕ) → EndsBy messages kinds named held before after sink status journal fault → named ≡ Some name → held name ≡ Some bytes
-      → EndsOn messages kinds bytes (Rose (before name) (after name)) sink status journal fault
-  told_ends None fault name bytes e is told = absurd (cc is)
-  told_ends (Some other) fault name bytes e is told =
-      let at : Ends messages kinds (held name) (Rose (before name) (after name)) sink status journal fault = subst (λ (n : List ℕ). Ends messages kinds (held n) (Rose (before n) (after n)) sink status journal fault) (let same : other ≡ name = cc is in same) e in
-      let as_told : bytes ≡ at.bytes = subst (λ (o : Option (List ℕ)). IfSome o (λ h. h ≡ at.bytes)) told at.as_told in
-      subst (λ (b : List ℕ). EndsOn messages kinds b (Rose (before name) (after name)) sink status journal fault) (sym as_told) at.ends
+abbrev IsReading : Fault → Type 0
+IsReading Usage = ⊥
+IsReading (Script fault) = ⊥
+IsReading (Capture port why) = ⊥
+IsReading (TooBig which) = ⊥
+IsReading (ReadFault which) = Unit {0}
+IsReading (WriteFault which) = ⊥
+IsReading NoMemory = ⊥
 
-  big_comes : (bytes : List ℕ) (rose : Type 0) (fault : Option Fault) → EndsOn messages kinds bytes rose sink status journal fault → most_script < length bytes → Comes fault (TooBig OfScript)
-  big_comes bytes rose None e big = absurd (let small : length bytes ≤ most_script = e.ran.fits in omega arith)
-  big_comes bytes rose (Some Usage) e big = absurd e
-  big_comes bytes rose (Some (Script (Unbuilt line))) e big = absurd (let small : length bytes ≤ most_script = e.fits in omega arith)
-  big_comes bytes rose (Some (Script NoMemoryForScript)) e big = absurd e
-  big_comes bytes rose (Some (TooBig OfScript)) e big = inl refl
-  big_comes bytes rose (Some (TooBig Sink)) e big = absurd e
-  big_comes bytes rose (Some (ReadFault OfScript)) e big = inr (inl refl)
-  big_comes bytes rose (Some (ReadFault Sink)) e big = absurd e
-  big_comes bytes rose (Some (WriteFault Sink)) e big = absurd (let small : length bytes ≤ most_script = e.ran.fits in omega arith)
-  big_comes bytes rose (Some (WriteFault OfScript)) e big = absurd e
-  big_comes bytes rose (Some NoMemory) e big = inr (inr refl)
+abbrev IsWriting : Fault → Type 0
+IsWriting Usage = ⊥
+IsWriting (Script fault) = ⊥
+IsWriting (Capture port why) = ⊥
+IsWriting (TooBig which) = ⊥
+IsWriting (ReadFault which) = ⊥
+IsWriting (WriteFault which) = Unit {0}
+IsWriting NoMemory = ⊥
 
-  pub too_big_comes : (named : Option (List ℕ)) (fault : Option Fault) (name bytes : List ℕ) → EndsBy messages kinds named held before after sink status journal fault → named ≡ Some name → held name ≡ Some bytes
-      → most_script < length bytes → Comes fault (TooBig OfScript)
-  too_big_comes named fault name bytes e is told big = big_comes bytes _ fault (told_ends named fault name bytes e is told) big
+-- with words that are not in form
+usage_refused : (o : Outside) (fault : Fault) → (fault ≡ NoMemory) ⊎ Refuses o usage.steps fault
+    → (Some fault ≡ Some Usage) ⊎ (Some fault ≡ Some NoMemory)
+usage_refused o fault (inl memory) = inr (ap (λ (f : Fault). Some f) memory)
+usage_refused o fault (inr refuses) = inl (ap (λ (f : Fault). Some f) refuses)
 
-  -- a script in form has no first line that isn't
-  module _ (never : (bytes : List ℕ) (script : List Command) (line : ℕ) → IsScript bytes script → IsUnbuilt bytes line → ⊥) where
-    line_comes : (same : (bytes : List ℕ) (a b : ℕ) → IsUnbuilt bytes a → IsUnbuilt bytes b → a ≡ b) (bytes : List ℕ) (line : ℕ) (rose : Type 0) (fault : Option Fault) → EndsOn messages kinds bytes rose sink status journal fault → length bytes ≤ most_script → IsUnbuilt bytes line
-        → Comes fault (Script (Unbuilt line))
-    line_comes same bytes line rose None e small first = absurd (never bytes e.ran.script line e.ran.read first)
-    line_comes same bytes line rose (Some Usage) e small first = absurd e
-    line_comes same bytes line rose (Some (Script (Unbuilt other))) e small first = inl (let is : other ≡ line = same bytes other line e.first first in rw is refl)
-    line_comes same bytes line rose (Some (Script NoMemoryForScript)) e small first = absurd e
-    line_comes same bytes line rose (Some (TooBig OfScript)) e small first = absurd (let big : most_script < length bytes = e.more in omega arith)
-    line_comes same bytes line rose (Some (TooBig Sink)) e small first = absurd e
-    line_comes same bytes line rose (Some (ReadFault OfScript)) e small first = inr (inl refl)
-    line_comes same bytes line rose (Some (ReadFault Sink)) e small first = absurd e
-    line_comes same bytes line rose (Some (WriteFault Sink)) e small first = absurd (never bytes e.ran.script line e.ran.read first)
-    line_comes same bytes line rose (Some (WriteFault OfScript)) e small first = absurd e
-    line_comes same bytes line rose (Some NoMemory) e small first = inr (inr refl)
+usage_alone : (o : Outside) (journal : List Event) (fault : Option Fault) → Ends usage o journal fault
+    → (fault ≡ Some Usage) ⊎ (fault ≡ Some NoMemory)
+usage_alone o journal None e = absurd e.ran
+usage_alone o journal (Some fault) (inl e) = usage_refused o fault e.cause
+usage_alone o journal (Some fault) (inr (inl e)) = absurd e.part
+usage_alone o journal (Some fault) (inr (inr e)) = absurd e.ran
 
-    pub unbuilt_comes : (same : (bytes : List ℕ) (a b : ℕ) → IsUnbuilt bytes a → IsUnbuilt bytes b → a ≡ b) (named : Option (List ℕ)) (fault : Option Fault) (name bytes : List ℕ) (line : ℕ) → EndsBy messages kinds named held before after sink status journal fault → named ≡ Some name → held name ≡ Some bytes
-        → length bytes ≤ most_script → IsUnbuilt bytes line → Comes fault (Script (Unbuilt line))
-    unbuilt_comes same named fault name bytes line e is told small first = line_comes same bytes line _ fault (told_ends named fault name bytes e is told) small first
+usage_quiet : (o : Outside) (journal : List Event) (fault : Option Fault) → Ends usage o journal fault → (journal ≡ []) × Same o.old o.now
+usage_quiet o journal None e = absurd e.ran
+usage_quiet o journal (Some fault) (inl e) = (e.nothing, e.same)
+usage_quiet o journal (Some fault) (inr (inl e)) = absurd e.part
+usage_quiet o journal (Some fault) (inr (inr e)) = absurd e.ran
 
-    script_runs : (one : (bytes : List ℕ) (a b : List Command) → IsScript bytes a → IsScript bytes b → a ≡ b) (bytes : List ℕ) (script : List Command) (rose : Type 0) (fault : Option Fault) → EndsOn messages kinds bytes rose sink status journal fault → length bytes ≤ most_script → IsScript bytes script
-        → RunsAs messages kinds script sink status journal fault
-    script_runs one bytes script rose None e small read =
-        let is : e.ran.script ≡ script = one bytes e.ran.script script e.ran.read read in
-        (subst (λ (s : List Command). IsPlain (start kinds) (given_of messages s) budget journal) is e.ran.plain, subst (λ (s : List Command). Appends sink.old sink.now (run_text messages kinds s journal)) is e.text)
-    script_runs one bytes script rose (Some Usage) e small read = absurd e
-    script_runs one bytes script rose (Some (Script (Unbuilt line))) e small read = absurd (never bytes script line read e.first)
-    script_runs one bytes script rose (Some (Script NoMemoryForScript)) e small read = absurd e
-    script_runs one bytes script rose (Some (TooBig OfScript)) e small read = absurd (let big : most_script < length bytes = e.more in omega arith)
-    script_runs one bytes script rose (Some (TooBig Sink)) e small read = absurd e
-    script_runs one bytes script rose (Some (ReadFault OfScript)) e small read = e.refused
-    script_runs one bytes script rose (Some (ReadFault Sink)) e small read = absurd e
-    script_runs one bytes script rose (Some (WriteFault Sink)) e small read =
-        let is : e.ran.script ≡ script = one bytes e.ran.script script e.ran.read read in
-        (subst (λ (s : List Command). IsPlain (start kinds) (given_of messages s) budget journal) is e.ran.plain, subst (λ (s : List Command). AppendsPrefix sink.old sink.now (run_text messages kinds s journal)) is e.front, e.cause)
-    script_runs one bytes script rose (Some (WriteFault OfScript)) e small read = absurd e
-    script_runs one bytes script rose (Some NoMemory) e small read = elim (e.so_far) [
-      | inl refused ↦ inl refused
-      | inr cut ↦ inr (subst (λ (s : List Command). IsOrderly (start kinds) (given_of messages s) budget 1 journal) (one bytes cut.script script cut.read read) cut.orderly)
-    ]
+none_fails : (P : Fault → Type 0) (o : Outside) (steps : List (Step Fault)) (fault : Fault) → P fault → NoneReads P steps
+    → FailsReading o steps fault → ⊥
+none_fails P o [] fault of unread failed = failed
+none_fails P o (Reads name is ∷ steps) fault of unread (inl failed) = unread.0 (subst (λ f. P f) failed.0 of)
+none_fails P o (Reads name is ∷ steps) fault of unread (inr failed) = none_fails P o steps fault of unread.1 failed
+none_fails P o (Checks found ∷ steps) fault of unread failed = none_fails P o steps fault of unread failed
 
-    pub runs_exactly : (one : (bytes : List ℕ) (a b : List Command) → IsScript bytes a → IsScript bytes b → a ≡ b) (named : Option (List ℕ)) (fault : Option Fault) (name bytes : List ℕ) (script : List Command) → EndsBy messages kinds named held before after sink status journal fault → named ≡ Some name → held name ≡ Some bytes
-        → length bytes ≤ most_script → IsScript bytes script → RunsAs messages kinds script sink status journal fault
-    runs_exactly one named fault name bytes script e is told small read = script_runs one bytes script _ fault (told_ends named fault name bytes e is told) small read
+-- with words in form
+module _ (kinds : List Kind) (words : Words) (found : Found) (o : Outside) (journal : List Event) where
+  never_usage : Ends (call_of kinds words found) o journal (Some Usage) → ⊥
+  never_usage e =
+      none_fails IsUsage o (steps_in words.source found) Usage refl
+      (none_read IsUsage (λ which is. cc is) words.source found)
+      (reads_only (call_of kinds words found) o journal IsUsage Usage refl (λ is. cc is) e
+      (none_checked IsUsage (λ which is. cc is) (λ fault is. cc is) (λ port why is. cc is) words.source found)
+      (none_written IsUsage (λ which is. cc is) kinds words found journal))
+
+  only_reading : (which : Which) → Ends (call_of kinds words found) o journal (Some (ReadFault which))
+      → FailsReading o (steps_in words.source found) (ReadFault which)
+  only_reading which e =
+      reads_only (call_of kinds words found) o journal IsReading (ReadFault which) tt (λ is. is) e
+      (none_checked IsReading (λ which is. is) (λ fault is. is) (λ port why is. is) words.source found)
+      (none_written IsReading (λ which is. is) kinds words found journal)
+
+  only_writing : (which : Which) → Ends (call_of kinds words found) o journal (Some (WriteFault which))
+      → FailsWriting o ((call_of kinds words found).writes journal) (WriteFault which)
+  only_writing which e =
+      writes_only (call_of kinds words found) o journal IsWriting (WriteFault which) tt (λ is. is) e
+      (none_checked IsWriting (λ which is. is) (λ fault is. is) (λ port why is. is) words.source found)
+      (none_read IsWriting (λ which is. is) words.source found)
+
+  stopped : (which : Which) → Ends (call_of kinds words found) o journal (Some (WriteFault which))
+      → IsStopped (call_of kinds words found) o journal (WriteFault which)
+  stopped which e =
+      stopped_alone (call_of kinds words found) o journal IsWriting (WriteFault which) tt (λ is. is) e
+      (none_checked IsWriting (λ which is. is) (λ fault is. is) (λ port why is. is) words.source found)
+      (none_read IsWriting (λ which is. is) words.source found)
+
+  quietly : (fault : Fault) → IsRefusal fault → Ends (call_of kinds words found) o journal (Some fault) → (journal ≡ []) × Same o.old o.now
+  quietly fault refusal e =
+      let refused : IsRefused (call_of kinds words found) o journal fault =
+      refused_alone (call_of kinds words found) o journal IsRefusal fault refusal (λ is. is) e
+      (none_written IsRefusal (λ which is. is) kinds words found journal) in
+      (refused.nothing, refused.same)
+
+  has_run : (fault : Option Fault) → HasRun fault → Ends (call_of kinds words found) o journal fault
+      → IsRun (setting_in kinds words found) words.workers journal
+  has_run None ran e = e.ran
+  has_run (Some Usage) ran e = absurd ran
+  has_run (Some (Script fault)) ran e = absurd ran
+  has_run (Some (Capture port why)) ran e = absurd ran
+  has_run (Some (TooBig which)) ran e = absurd ran
+  has_run (Some (ReadFault which)) ran e = absurd ran
+  has_run (Some (WriteFault which)) ran e = (stopped which e).ran
+  has_run (Some NoMemory) ran e = absurd ran
+
+-- the ends of a call whose files tell this
+module _ (kinds : List Kind) (o : Outside) (status : ℕ) (journal : List Event) (fault : Option Fault) where
+  told_ends : (said : Option Words) (words : Words) (found : Found) → EndsBy kinds said o status journal fault → said ≡ Some words
+      → Tell o.old.files words.source found → Ends (call_of kinds words found) o journal fault
+  told_ends None words found e is told = absurd (cc is)
+  told_ends (Some other) words found e is told =
+      let same : other ≡ words = cc is in
+      let at : EndsWith kinds words o status journal fault = subst (λ (w : Words). EndsWith kinds w o status journal fault) same e in
+      subst (λ (f : Found). Ends (call_of kinds words f) o journal fault) (found_is o.old.files words.source at.found found at.is_found told) at.ends
+
+  pub comes : (said : Option Words) → EndsBy kinds said o status journal fault → FaultComes kinds said o fault
+  comes said e = λ words found due is told first.
+      fault_comes (call_of kinds words found) o journal fault due (told_ends said words found e is told) first
+
+  pub completes : (said : Option Words) → EndsBy kinds said o status journal fault → Completes kinds said o journal fault
+  completes said e = λ words found is told fine reads writes.
+      ends_well (call_of kinds words found) o journal fault (told_ends said words found e is told) fine reads writes
+
+  pub does_all : (said : Option Words) → EndsBy kinds said o status journal fault → DoesAll kinds said o journal fault
+  does_all said e = λ words found is told well.
+      subst (λ (f : Option Fault). Ends (call_of kinds words found) o journal f) well (told_ends said words found e is told)
+
+  pub runs_plainly : (said : Option Words) → EndsBy kinds said o status journal fault → RunsPlainly kinds said o journal fault
+  runs_plainly said e = λ words found is told none ran.
+      (has_run kinds words found o journal fault ran (told_ends said words found e is told)).plain none
+
+  pub usage_comes : (said : Option Words) → EndsBy kinds said o status journal fault → UsageComes said fault
+  usage_comes None e = ((λ none. usage_alone o journal fault e.ends), (λ is. refl))
+  usage_comes (Some words) e = (
+    (λ none. absurd (cc none)),
+    (λ is. absurd (never_usage kinds words e.found o journal (subst (λ (f : Option Fault). Ends (call_of kinds words e.found) o journal f) is e.ends))),
+  )
+
+  pub reading_only : (said : Option Words) → EndsBy kinds said o status journal fault → ReadsOnly kinds said o fault
+  reading_only None e = λ which is.
+      absurd (not_usage (usage_alone o journal (Some (ReadFault which)) (subst (λ (f : Option Fault). Ends usage o journal f) is e.ends)))
+    where
+      not_usage : {which : Which} → (Some (ReadFault which) ≡ Some Usage) ⊎ (Some (ReadFault which) ≡ Some NoMemory) → ⊥
+      not_usage (inl same) = cc same
+      not_usage (inr same) = cc same
+  reading_only (Some words) e = λ which is. (
+    words,
+    e.found,
+    refl,
+    only_reading kinds words e.found o journal which (subst (λ (f : Option Fault). Ends (call_of kinds words e.found) o journal f) is e.ends),
+  )
+
+  pub writing_only : (said : Option Words) → EndsBy kinds said o status journal fault → WritesOnly kinds said o journal fault
+  writing_only None e = λ which is.
+      absurd (not_usage (usage_alone o journal (Some (WriteFault which)) (subst (λ (f : Option Fault). Ends usage o journal f) is e.ends)))
+    where
+      not_usage : {which : Which} → (Some (WriteFault which) ≡ Some Usage) ⊎ (Some (WriteFault which) ≡ Some NoMemory) → ⊥
+      not_usage (inl same) = cc same
+      not_usage (inr same) = cc same
+  writing_only (Some words) e = λ which is. (
+    words,
+    e.found,
+    refl,
+    only_writing kinds words e.found o journal which (subst (λ (f : Option Fault). Ends (call_of kinds words e.found) o journal f) is e.ends),
+  )
+
+  pub leaves_prefix : (said : Option Words) → EndsBy kinds said o status journal fault → LeavesPrefix kinds said o journal fault
+  leaves_prefix None e = λ which is.
+      absurd (not_usage (usage_alone o journal (Some (WriteFault which)) (subst (λ (f : Option Fault). Ends usage o journal f) is e.ends)))
+    where
+      not_usage : {which : Which} → (Some (WriteFault which) ≡ Some Usage) ⊎ (Some (WriteFault which) ≡ Some NoMemory) → ⊥
+      not_usage (inl same) = cc same
+      not_usage (inr same) = cc same
+  leaves_prefix (Some words) e = λ which is. (
+    words,
+    e.found,
+    refl,
+    stopped kinds words e.found o journal which (subst (λ (f : Option Fault). Ends (call_of kinds words e.found) o journal f) is e.ends),
+  )
+
+  pub refuses_quietly : (said : Option Words) → EndsBy kinds said o status journal fault → RefusesQuietly o journal fault
+  refuses_quietly None e = λ found is refusal. usage_quiet o journal fault e.ends
+  refuses_quietly (Some words) e = λ found is refusal.
+      quietly kinds words e.found o journal found refusal (subst (λ (f : Option Fault). Ends (call_of kinds words e.found) o journal f) is e.ends)
+
+  pub keeps_others : (said : Option Words) → EndsBy kinds said o status journal fault → KeepsOthers kinds said o journal fault
+  keeps_others said e = λ words found name is told spares.
+      ends_keep (call_of kinds words found) o journal fault (ToFile name) (told_ends said words found e is told) spares
+
+  pub writes_each : (list : List (List ℕ)) → EndsBy kinds (words_of list) o status journal fault → WritesEach kinds (words_of list) o journal fault
+  writes_each list e = λ words found is told well.
+      let done : IsDone (call_of kinds words found) o journal =
+      subst (λ (f : Option Fault). Ends (call_of kinds words found) o journal f) well (told_ends (words_of list) words found e is told) in
+      each_written ((call_of kinds words found).writes journal) o.old o.now (writes_apart list kinds words found journal is) done.written

@@ -1,2 +1,12 @@
+pub mod Captures
+pub mod Files
+pub mod Ports
+pub mod Reading
+pub mod Reports
+pub mod Writing
+pub mod Sorts
+pub mod Said
+pub mod Running
 pub mod Ending
+pub mod Apart
 pub mod Exactly

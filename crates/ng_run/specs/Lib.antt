@@ -1,4 +1,9 @@
-pub mod Words
-pub mod Inputs
-pub mod Line
+pub mod Said
+pub mod Found
+pub mod Steps
+pub mod Run
+pub mod Writes
 pub mod Ends
+pub mod Parts
+pub mod Exactly
+pub mod Line

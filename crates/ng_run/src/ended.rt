@@ -1,51 +1,58 @@
-// How a call ended.
+// How a call ends.
 use ng_base::Event;
-use ngctl_words::ScriptFault;
+use ng_pcap::CaptureFault;
+use ngctl_script::ScriptFault;
+use thiserror::Error;
 
-/// What a fault was met at.
+/// A file of the words, or the sink. Ports count from 0.
 #[derive(Clone, Copy, Debug, PartialEq, Eq)]
 pub enum Which {
-    /// The sink that the text is put into.
+    /// The sink.
     Sink,
-    /// The script.
+    /// SCRIPT.
     Script,
+    /// The IN of a port.
+    Capture(u32),
+    /// The OUT of a port.
+    Leaving(u32),
+    /// JOURNAL.
+    Journal,
 }
 
-/// Why a call didn't end as a run ends.
-#[derive(Clone, Copy, Debug, PartialEq, Eq)]
+/// Why a call did not come to its end, each with its status.
+#[derive(Clone, Copy, Debug, PartialEq, Eq, Error)]
 pub enum Fault {
-    /// The words are not one name of a script.
+    /// The words are not in form: status 64.
+    #[error("the words are not in form")]
     Usage,
-    /// The script isn't of the form that is built so far; its first line that isn't is told.
+    /// The script is not in form: status 65.
+    #[error("the script is not in form")]
     Script(ScriptFault),
-    /// There are more bytes than are taken: of a script more than 1,048,576.
+    /// The capture of a port is not in form: status 65.
+    #[error("a capture is not in form")]
+    Capture { port: u32, why: CaptureFault },
+    /// The script has more bytes than it may have, or the captures more bytes or packets than they may have together:
+    /// status 65.
+    #[error("a file is too big")]
     TooBig(Which),
-    /// A read failed.
+    /// A file was not read: status 66.
+    #[error("a file was not read")]
     ReadFault(Which),
-    /// A write failed.
+    /// A file or the sink was not written: status 74.
+    #[error("a file or the output was not written")]
     WriteFault(Which),
-    /// Memory was wanting.
+    /// Out of memory: status 71.
+    #[error("out of memory")]
     NoMemory,
 }
 
 /// How a call ended.
-///
-/// | status | fault | it comes |
-/// |---|---|---|
-/// | 0 | none | where all was written and the run didn't stop at its limit |
-/// | 2 | none | where all was written and the run stopped at its limit |
-/// | 64 | `Usage` | exactly where the words are not one word that isn't empty and doesn't begin with `-` |
-/// | 65 | `TooBig(Script)` | exactly where the script has more than 1,048,576 bytes |
-/// | 65 | `Script` | exactly where the script's first line that isn't of the form is that one |
-/// | 66 | `ReadFault(Script)` | only where the files' count of faults of that name rose |
-/// | 74 | `WriteFault(Sink)` | only where the sink's count of faults rose |
-/// | 71 | `NoMemory` | for want of memory |
 #[derive(Drop)]
 pub struct Ended {
-    /// The exit status.
+    /// 0, 1 where an errno was told, 2 where the run stopped at its limit, or that of the fault.
     pub status: u8,
-    /// The events of the run, in order.
+    /// The journal of the run. It has no events where the call did not come to the run.
     pub journal: Vec<Event>,
-    /// Why it ended early, if it did.
+    /// The fault, where there is one.
     pub fault: Option<Fault>,
 }

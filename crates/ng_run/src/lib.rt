@@ -1,14 +1,19 @@
-//! The top call: one script is read, run on one thread and printed.
+//! The call of a run: reads what the words name, runs it, and writes its text, the captures that leave
+//! and its journal.
 #![tactic(auto)]
 
 mod ended;
-mod inputs;
+mod found;
 mod line;
-#[cfg(test)]
-mod tests;
+mod machine;
+mod made;
+mod parse;
+mod read;
+mod text;
 mod top;
-mod words;
+mod write;
 
 pub use ended::{Ended, Fault, Which};
 pub use line::fault_line;
-pub use top::{ngrun, run_words};
+pub use machine::Machine;
+pub use top::ngrun;

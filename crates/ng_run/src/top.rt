@@ -1,189 +1,247 @@
 // The top call.
-ghost use Rattle.std.specs.Prelude.{◌≡◌, ◌<◌, ◌≤◌, ◌↔◌, ◌^◌, [], All, true, length, map, string_bytes, IfOk, IfSome, Some, None, List, ℕ};
-ghost use Rattle.ng_base.specs.declared.kind.Kind.{Kind};
-ghost use Rattle.ng_machine.specs.declared.command.Command.{Command};
-ghost use Rattle.ng_machine.specs.State.{kind_of, blank_of};
-ghost use Rattle.ng_machine.specs.Stock.{has_kind};
-ghost use Rattle.ng_machine.specs.Totals.{hook_total};
-ghost use Rattle.ng_outside.specs.Count.{Rose};
-ghost use Rattle.ngctl_words.specs.Form.{IsInForm};
-ghost use Rattle.ngctl_print.specs.Fits.{AllToldFit};
-ghost use Rattle.ng_core.specs.Going.{Messages};
-ghost use Rattle.ng_run.specs.Words.{script_name};
-ghost use Rattle.ng_run.specs.Inputs.{text_at};
-ghost use Rattle.ngctl_words.specs.Script.{IsScript, IsUnbuilt};
-ghost use Rattle.ng_run.specs.Ends.{EndsBy, EndsRun, PrintEnds, RunsAs, Comes, status_of, most_script};
+ghost use Rattle.std.specs.Prelude.{◌≡◌, ◌≤◌, ℕ, List, [], Option, Some, if◌then◌else◌, map, length, string_bytes, IfOk};
+ghost use Rattle.std.specs.List.{list_any};
+ghost use Rattle.ng_printable.specs.Printable.{ToldIsPrintable, LeftIsWritable};
+ghost use Rattle.ng_printable.specs.Scripts.{InputsAreOfScript, InputsAreFit, InputsAreTimed};
+ghost use Rattle.ngctl_script.specs.Held.{AreCommands};
+ghost use Rattle.ng_run.specs.Writes.{is_stop, is_error};
+ghost use Rattle.ng_outside.specs.Contents.{Contents};
+ghost use Rattle.ng_words.specs.Run.{words_of, ports_from};
+ghost use Rattle.ng_run.specs.declared.ended.Fault.TheVariants.{NoMemory as no_memory};
+ghost use Rattle.ng_run.specs.Said.{InForm};
+ghost use Rattle.ng_run.specs.Exactly.{UsageComes, FaultComes, Completes, ReadsOnly, WritesOnly, LeavesPrefix, RefusesQuietly, DoesAll, KeepsOthers, RunsPlainly, WritesEach};
+ghost use Rattle.ng_run.specs.Ends.{EndsBy, EndsWith, fault_status};
+ghost use Rattle.ng_run.specs.Parts.{storing, outside, counting, AllPass};
 
-use crate::inputs::inputs;
-use crate::words::script_name;
-use crate::{Ended, Fault, Which};
-use ng_base::{Event, Name};
-use ng_core::{Core, plain};
-use ng_node::Node;
-use ng_outside::{Files, ReadStop, Sink, read_whole};
-use ngctl_print::{PrintStop, print_text};
-use ngctl_words::{Script, ScriptFault, read_script};
+use crate::found::{ReadIn, ReadScript};
+use crate::made::read_made;
+use crate::read::read_files;
+use crate::text::{has_error, is_stopped};
+use crate::write::write_all;
+use crate::{Ended, Fault, Machine};
+use ng_base::NoMemory;
+use ng_feed::inputs;
+use ng_outside::{Files, Sink};
+use ng_pcap::Capture;
+use ng_printable::{
+    inputs_are_fit, inputs_are_of_script, inputs_are_timed, left_is_writable, told_is_printable,
+};
+use ng_words::{PortWord, Source, Words, read_words};
+use ngctl_script::Script;
 use std::alloc::Global;
 
-// A script has at most so many bytes.
-const MOST_SCRIPT: u64 = 1_048_576;
-
-// So many items are applied at the most.
-const BUDGET: u64 = 1_000_000;
+fn fault_status(fault: Fault) -> u8
+    ensures { result ≡ fault_status fault }
+{
+    match fault {
+        Fault::Usage => 64,
+        Fault::Script(_) | Fault::Capture { .. } | Fault::TooBig(_) => 65,
+        Fault::ReadFault(_) => 66,
+        Fault::WriteFault(_) => 74,
+        Fault::NoMemory => 71,
+    }
+}
 
 // The end of a call that is refused before it runs.
-fn refused(alloc: Global, status: u8, fault: Fault) -> Ended
-    ensures status { result.status ≡ status }
+fn refused(alloc: Global, fault: Fault) -> Ended
+    ensures status { result.status ≡ fault_status fault }
     ensures journal { result.journal.items ≡ [] }
     ensures fault { result.fault ≡ Some fault }
 {
     Ended {
-        status,
+        status: fault_status(fault),
         journal: Vec::new(alloc),
         fault: Some(fault),
     }
 }
 
-// The text of a run into the sink.
-fn print_and_end<O: Sink, B: Node>(
-    alloc: Global,
-    script: &Script,
-    core: &Core<B>,
-    of: u64,
-    stopped: bool,
-    journal: Vec<Event>,
-    out: &mut O,
-) -> Ended
-    requires short { AllToldFit core.now.told }
-    requires hooks { hook_total core.now.nodes < 2 ^ 63 }
-    ensures journal { result.journal.items ≡ journal.items }
-    ensures ends { (all : of ≡ length script.now) → PrintEnds (text_at script.now core.now stopped) stopped (record { old = O.contents out.old; now = O.contents out.new; before = O.faults out.old; after = O.faults out.new }) result.status result.fault }
+// The places where captures were cut.
+fn cuts_of(alloc: Global, captures: &[Capture]) -> Result<Vec<Option<u64>>, NoMemory>
+    ensures { IfOk result (λ cuts. cuts.items ≡ map (λ capture. capture.cut) captures.now) }
 {
-    match print_text(
-        alloc,
-        script,
-        core.told(),
-        &core.totals(),
-        core.fed(),
-        of,
-        stopped,
-        out,
-    ) {
-        Ok(()) => Ended {
-            status: if stopped { 2 } else { 0 },
-            journal,
-            fault: None,
-        },
-        Err(PrintStop::Fault) => Ended {
-            status: 74,
-            journal,
-            fault: Some(Fault::WriteFault(Which::Sink)),
-        },
-        Err(PrintStop::NoMemory) => Ended {
-            status: 71,
-            journal,
-            fault: Some(Fault::NoMemory),
-        },
+    let mut cuts = Vec::new(alloc);
+    for capture in captures {
+        cuts.push(capture.cut)?;
+    }
+    Ok(cuts)
+}
+
+// What is known of the inputs of a script.
+fn know_inputs(script: &Script)
+    ensures held { AreCommands script.now }
+    ensures script { InputsAreOfScript }
+    ensures fit { InputsAreFit }
+    ensures timed { InputsAreTimed }
+{
+    let _commands = script.commands();
+    inputs_are_of_script();
+    inputs_are_fit();
+    inputs_are_timed();
+}
+
+// What is known of each run.
+fn know_run()
+    ensures told { ToldIsPrintable }
+    ensures left { LeftIsWritable }
+{
+    told_is_printable();
+    left_is_writable();
+}
+
+// 0, 1 where an errno was told, 2 where the run stopped at its limit.
+fn run_status<M: Machine>(machine: &M) -> u8
+    ensures { result ≡ (if list_any is_stop (M.events machine.now) then 2 else if list_any is_error (M.world machine.now).told then 1 else 0) }
+{
+    if is_stopped(machine.journal()) {
+        2
+    } else if has_error(machine.told()) {
+        1
+    } else {
+        0
     }
 }
 
-// Runs a script that was read, and prints its text.
-fn run_script<O: Sink, B: Node>(alloc: Global, script: &Script, out: &mut O, stock: Vec<B>) -> Ended
-    requires form { IsInForm script.now }
-    requires blank { All (λ b. B.state b ≡ blank_of (kind_of (B.state b))) stock.items }
-    requires socket { has_kind (map (λ b. kind_of (B.state b)) stock.items) Kind.Socket ≡ true }
-    ensures { (messages : Messages) → EndsRun messages (map (λ b. kind_of (B.state b)) stock.items) script.now (record { old = O.contents out.old; now = O.contents out.new; before = O.faults out.old; after = O.faults out.new }) result.status result.journal.items result.fault }
+// Runs what was read, and writes what comes of it.
+fn run_read<M: Machine + Drop, F: Files, O: Sink>(
+    alloc: Global,
+    mut machine: M,
+    words: &Words,
+    ports: &[PortWord],
+    read: ReadIn,
+    files: &mut F,
+    out: &mut O,
+) -> Ended
+    requires form { InForm words.now }
+    requires ports { ports.now ≡ ports_from words.now.source }
+    requires read { AllPass (F.contents files.old) words.now.source read.script.script read.script.commands.items read.captures.items }
+    ensures { EndsWith (M.kinds machine) words.now (outside (storing (O.contents out.old) (F.contents files.old)) (storing (O.contents out.new) (F.contents files.new))
+        (counting (O.faults out.old) (F.faults files.old)) (counting (O.faults out.new) (F.faults files.new))) result.status result.journal.items result.fault }
 {
-    let Ok(inputs) = inputs(alloc, script.commands()) else {
-        return refused(alloc, 71, Fault::NoMemory);
+    let ReadIn { script, captures } = read;
+    let ReadScript { script, commands } = script;
+    let Ok(cuts) = cuts_of(alloc, &captures) else {
+        return refused(alloc, Fault::NoMemory);
     };
-    let Ok(own) = Name::read(b"ngctl") else {
-        unreachable!()
+    know_inputs(&script);
+    let Ok(inputs) = inputs(alloc, script, captures) else {
+        return refused(alloc, Fault::NoMemory);
     };
-    let Ok(mut core) = Core::new(alloc, own, stock) else {
-        return refused(alloc, 71, Fault::NoMemory);
-    };
-    let mut journal = Vec::new(alloc);
-    let Ok(stopped) = plain(alloc, &mut core, &inputs, BUDGET, &mut journal) else {
+    let of = inputs.len() as u64;
+    let Ok(()) = machine.run(alloc, words, inputs) else {
         return Ended {
             status: 71,
-            journal,
+            journal: machine.into_journal(),
             fault: Some(Fault::NoMemory),
         };
     };
-    print_and_end(
+    know_run();
+    let status = run_status(&machine);
+    let wrote = write_all(
         alloc,
-        script,
-        &core,
-        inputs.len() as u64,
-        stopped,
-        journal,
+        &machine,
+        &commands,
+        ports,
+        &cuts,
+        of,
+        &words.journal,
+        files,
         out,
-    )
-}
-
-/// The top call over any type of nodes: what `ngrun` does, with its clauses.
-pub fn run_words<F: Files, O: Sink, B: Node>(
-    alloc: Global,
-    words: &[String],
-    files: &mut F,
-    out: &mut O,
-    stock: Vec<B>,
-) -> Ended
-    requires blank { All (λ b. B.state b ≡ blank_of (kind_of (B.state b))) stock.items }
-    requires socket { has_kind (map (λ b. kind_of (B.state b)) stock.items) Kind.Socket ≡ true }
-    ensures ends { (messages : Messages) → EndsBy messages (map (λ b. kind_of (B.state b)) stock.items) (script_name (map (λ word. string_bytes word) words.now)) (F.contents files.old) (F.faults files.old) (F.faults files.new)
-        (record { old = O.contents out.old; now = O.contents out.new; before = O.faults out.old; after = O.faults out.new }) result.status result.journal.items result.fault }
-    ensures files { F.contents files.new ≡ F.contents files.old }
-{
-    let Some(name) = script_name(words) else {
-        return refused(alloc, 64, Fault::Usage);
-    };
-    let bytes = match read_whole(alloc, files, name, MOST_SCRIPT) {
-        Ok(bytes) => bytes,
-        Err(ReadStop::Fault) => return refused(alloc, 66, Fault::ReadFault(Which::Script)),
-        Err(ReadStop::TooBig) => return refused(alloc, 65, Fault::TooBig(Which::Script)),
-        Err(ReadStop::NoMemory) => return refused(alloc, 71, Fault::NoMemory),
-    };
-    match read_script(alloc, &bytes) {
-        Ok(script) => run_script(alloc, &script, out, stock),
-        Err(ScriptFault::NoMemory) => refused(alloc, 71, Fault::NoMemory),
-        Err(fault) => refused(alloc, 65, Fault::Script(fault)),
+    );
+    match wrote {
+        Ok(()) => Ended {
+            status,
+            journal: machine.into_journal(),
+            fault: None,
+        },
+        Err(fault) => Ended {
+            status: fault_status(fault),
+            journal: machine.into_journal(),
+            fault: Some(fault),
+        },
     }
 }
 
-/// Reads the script that the words name, runs it on one thread and puts the text of the run into `out`.
-///
-/// The words are exactly one word, the name of the script. `stock` has the nodes that commands may make, each blank,
-/// one socket and one echo at the least. Each line of the text is offered to `put` by itself, whole, first. The table at
-/// [`Ended`] has the statuses, in the order in which the causes are looked for: the words, the read of the script, its
-/// size, its form, the run, the writes; 71 may come in the place of any.
-///
-/// After 64, 65 and 66 nothing was written and the journal is empty. After 74 what was written is a front of the text
-/// and the journal is whole. After 71 the journal is orderly as far as it goes, and what was written is nothing, or a
-/// front of the text of the whole journal.
-pub fn ngrun<F: Files, O: Sink>(
+// What a call with these words does.
+fn run_words<M: Machine + Drop, F: Files, O: Sink>(
+    alloc: Global,
+    machine: M,
+    words: &Words,
+    files: &mut F,
+    out: &mut O,
+) -> Ended
+    requires { InForm words.now }
+    ensures { EndsWith (M.kinds machine) words.now (outside (storing (O.contents out.old) (F.contents files.old)) (storing (O.contents out.new) (F.contents files.new))
+        (counting (O.faults out.old) (F.faults files.old)) (counting (O.faults out.new) (F.faults files.new))) result.status result.journal.items result.fault }
+{
+    match &words.source {
+        Source::FromFiles { script, ports } => {
+            match read_files(alloc, script, ports.as_slice(), files) {
+                Ok(read) => run_read(alloc, machine, words, ports.as_slice(), read, files, out),
+                Err(fault) => refused(alloc, fault),
+            }
+        }
+        Source::Made(packets) => match read_made(alloc, *packets) {
+            Ok((read, ports)) => run_read(alloc, machine, words, &ports, read, files, out),
+            Err(_) => refused(alloc, Fault::NoMemory),
+        },
+    }
+}
+
+// The call, and its end.
+fn run_call<M: Machine + Drop, F: Files, O: Sink>(
     alloc: Global,
     words: &[String],
     files: &mut F,
     out: &mut O,
-    stock: Vec<Box<dyn Node + Send>>,
+    machine: M,
 ) -> Ended
-    requires blank { All (λ b. state b ≡ blank_of (kind_of (state b))) stock.items }
-    requires socket { has_kind (map (λ b. kind_of (state b)) stock.items) Kind.Socket ≡ true }
-    requires echo { has_kind (map (λ b. kind_of (state b)) stock.items) Kind.Echo ≡ true }
-    ensures ends { (messages : Messages) → EndsBy messages (map (λ b. kind_of (state b)) stock.items) (script_name (map (λ word. string_bytes word) words.now)) (F.contents files.old) (F.faults files.old) (F.faults files.new)
-        (record { old = O.contents out.old; now = O.contents out.new; before = O.faults out.old; after = O.faults out.new }) result.status result.journal.items result.fault }
-    ensures files { F.contents files.new ≡ F.contents files.old }
-    ensures status { result.status ≡ status_of result.fault result.journal.items }
-    ensures usage { (result.fault ≡ Some Fault.Usage) ↔ (script_name (map (λ word. string_bytes word) words.now) ≡ None) }
-    ensures too_big { (name bytes : List ℕ) → script_name (map (λ word. string_bytes word) words.now) ≡ Some name → F.contents files.old name ≡ Some bytes
-        → most_script < length bytes → Comes result.fault (Fault.TooBig Which.Script) }
-    ensures unbuilt { (name bytes : List ℕ) (line : ℕ) → script_name (map (λ word. string_bytes word) words.now) ≡ Some name → F.contents files.old name ≡ Some bytes
-        → length bytes ≤ most_script → IsUnbuilt bytes line → Comes result.fault (Fault.Script (ScriptFault.Unbuilt line)) }
-    ensures runs { (messages : Messages) (name bytes : List ℕ) (script : List Command) → script_name (map (λ word. string_bytes word) words.now) ≡ Some name → F.contents files.old name ≡ Some bytes
-        → length bytes ≤ most_script → IsScript bytes script
-        → RunsAs messages (map (λ b. kind_of (state b)) stock.items) script (record { old = O.contents out.old; now = O.contents out.new; before = O.faults out.old; after = O.faults out.new }) result.status result.journal.items result.fault }
+    ensures { EndsBy (M.kinds machine) (words_of (map (λ word. string_bytes word) words.now)) (outside (storing (O.contents out.old) (F.contents files.old)) (storing (O.contents out.new) (F.contents files.new))
+        (counting (O.faults out.old) (F.faults files.old)) (counting (O.faults out.new) (F.faults files.new))) result.status result.journal.items result.fault }
 {
-    run_words(alloc, words, files, out, stock)
+    match read_words(alloc, words) {
+        Ok(Some(said)) => run_words(alloc, machine, &said, files, out),
+        Ok(None) => refused(alloc, Fault::Usage),
+        Err(_) => refused(alloc, Fault::NoMemory),
+    }
+}
+
+/// The call of a run: reads the words, the script and the captures that they name, runs them, and writes the text of the
+/// run into `out`, the captures that leave, in order of ports, and the journal.
+///
+/// The words are `[-w WORKERS] [-b BUDGET] [-n NAME] [-j JOURNAL] SCRIPT [PORT=IN,OUT ..]`, or `-g N` in place of SCRIPT
+/// and the ports. Refusals come in this order: the words (64); the script, not read (66), too big or not in form (65);
+/// each capture, not read (66), too many bytes, not in form, too many packets (65). Then come the run and the writes
+/// (74). 71 may stand in place of any. `machine` runs.
+pub fn ngrun<M: Machine + Drop, F: Files, O: Sink>(
+    alloc: Global,
+    words: &[String],
+    files: &mut F,
+    out: &mut O,
+    machine: M,
+) -> Ended
+    ensures ends { EndsBy (M.kinds machine) (words_of (map (λ word. string_bytes word) words.now)) (outside (storing (O.contents out.old) (F.contents files.old)) (storing (O.contents out.new) (F.contents files.new))
+        (counting (O.faults out.old) (F.faults files.old)) (counting (O.faults out.new) (F.faults files.new))) result.status result.journal.items result.fault }
+    ensures usage { UsageComes (words_of (map (λ word. string_bytes word) words.now)) result.fault }
+    ensures comes { FaultComes (M.kinds machine) (words_of (map (λ word. string_bytes word) words.now)) (outside (storing (O.contents out.old) (F.contents files.old)) (storing (O.contents out.new) (F.contents files.new))
+        (counting (O.faults out.old) (F.faults files.old)) (counting (O.faults out.new) (F.faults files.new))) result.fault }
+    ensures complete { Completes (M.kinds machine) (words_of (map (λ word. string_bytes word) words.now)) (outside (storing (O.contents out.old) (F.contents files.old)) (storing (O.contents out.new) (F.contents files.new))
+        (counting (O.faults out.old) (F.faults files.old)) (counting (O.faults out.new) (F.faults files.new))) result.journal.items result.fault }
+    ensures plain { RunsPlainly (M.kinds machine) (words_of (map (λ word. string_bytes word) words.now)) (outside (storing (O.contents out.old) (F.contents files.old)) (storing (O.contents out.new) (F.contents files.new))
+        (counting (O.faults out.old) (F.faults files.old)) (counting (O.faults out.new) (F.faults files.new))) result.journal.items result.fault }
+    ensures reads { ReadsOnly (M.kinds machine) (words_of (map (λ word. string_bytes word) words.now)) (outside (storing (O.contents out.old) (F.contents files.old)) (storing (O.contents out.new) (F.contents files.new))
+        (counting (O.faults out.old) (F.faults files.old)) (counting (O.faults out.new) (F.faults files.new))) result.fault }
+    ensures writes { WritesOnly (M.kinds machine) (words_of (map (λ word. string_bytes word) words.now)) (outside (storing (O.contents out.old) (F.contents files.old)) (storing (O.contents out.new) (F.contents files.new))
+        (counting (O.faults out.old) (F.faults files.old)) (counting (O.faults out.new) (F.faults files.new))) result.journal.items result.fault }
+    ensures prefix { LeavesPrefix (M.kinds machine) (words_of (map (λ word. string_bytes word) words.now)) (outside (storing (O.contents out.old) (F.contents files.old)) (storing (O.contents out.new) (F.contents files.new))
+        (counting (O.faults out.old) (F.faults files.old)) (counting (O.faults out.new) (F.faults files.new))) result.journal.items result.fault }
+    ensures quiet { RefusesQuietly (outside (storing (O.contents out.old) (F.contents files.old)) (storing (O.contents out.new) (F.contents files.new))
+        (counting (O.faults out.old) (F.faults files.old)) (counting (O.faults out.new) (F.faults files.new))) result.journal.items result.fault }
+    ensures done { DoesAll (M.kinds machine) (words_of (map (λ word. string_bytes word) words.now)) (outside (storing (O.contents out.old) (F.contents files.old)) (storing (O.contents out.new) (F.contents files.new))
+        (counting (O.faults out.old) (F.faults files.old)) (counting (O.faults out.new) (F.faults files.new))) result.journal.items result.fault }
+    ensures others { KeepsOthers (M.kinds machine) (words_of (map (λ word. string_bytes word) words.now)) (outside (storing (O.contents out.old) (F.contents files.old)) (storing (O.contents out.new) (F.contents files.new))
+        (counting (O.faults out.old) (F.faults files.old)) (counting (O.faults out.new) (F.faults files.new))) result.journal.items result.fault }
+    ensures each { WritesEach (M.kinds machine) (words_of (map (λ word. string_bytes word) words.now)) (outside (storing (O.contents out.old) (F.contents files.old)) (storing (O.contents out.new) (F.contents files.new))
+        (counting (O.faults out.old) (F.faults files.old)) (counting (O.faults out.new) (F.faults files.new))) result.journal.items result.fault }
+{
+    run_call(alloc, words, files, out, machine)
 }

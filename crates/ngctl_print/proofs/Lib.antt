@@ -1,4 +1,3 @@
 pub mod Printing
-pub mod Fitting
 pub mod Rows
 pub mod Lines

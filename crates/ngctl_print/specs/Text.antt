@@ -1,14 +1,10 @@
--- The text of a run.
+-- The parts of the text of a run.
 use Rattle.std.specs.Prelude.{ℕ, Bool, if◌then◌else◌, List, [], ◌∷◌, ◌++◌, codes}
 use Rattle.std.specs.Fmt.{decimal}
-use Rattle.std.specs.List.{concat, flat_map}
+use Rattle.std.specs.List.{concat}
 use Rattle.ng_base.specs.declared.errno.Errno.{Errno}
 use Rattle.ng_base.specs.Errno.{errno_text}
-use Rattle.ng_machine.specs.declared.command.Command.{Command}
-use Rattle.ng_machine.specs.declared.told.Told.{Told}
-use Rattle.ng_machine.specs.declared.told.Told.TheVariants.{Line, Refused, Help, Answer, Frame}
 use Rattle.ng_machine.specs.declared.totals.Totals.{Totals}
-use Rattle.ngctl_words.specs.Script.{line_of}
 use Rattle.ngctl_print.specs.Dump.{line_feed, dump}
 
 -- the line of a command that was fed
@@ -30,14 +26,6 @@ frame_line hook = codes "data on " ++ (hook ++ (codes ":" ++ line_feed))
 
 abbrev pub frame_text : List ℕ → List ℕ → List ℕ
 frame_text hook packet = frame_line hook ++ dump packet
-
--- one entry. Help and answers have no text yet: theirs come with the commands that ask for them.
-abbrev pub told_text : List Command → Told → List ℕ
-told_text script (Line command) = command_line (line_of script command)
-told_text script (Refused command errno why) = refused_line errno why
-told_text script (Help command) = []
-told_text script (Answer command from cookie number bytes) = []
-told_text script (Frame hook packet) = frame_text hook packet
 
 -- the summary
 abbrev pub stopped_words : Bool → List ℕ
@@ -66,7 +54,3 @@ summary_lines totals fed of stopped = fed_line totals fed of stopped ∷ dropped
 
 abbrev pub summary_text : Totals → ℕ → ℕ → Bool → List ℕ
 summary_text totals fed of stopped = concat (summary_lines totals fed of stopped)
-
--- all that is told, in order, and then the summary
-abbrev pub text_of : List Command → List Told → Totals → ℕ → ℕ → Bool → List ℕ
-text_of script told totals fed of stopped = flat_map (told_text script) told ++ summary_text totals fed of stopped

@@ -1,5 +1,5 @@
-//! The text of a run: what the one who gave the commands is told, and the summary behind it, put into
-//! a sink line by line.
+//! The parts of the text of a run that need no script: a command's line, a refusal, a packet at the socket, the summary
+//! and the line of a port, put into a sink line by line.
 #![tactic(auto)]
 
 mod dump;
@@ -9,12 +9,10 @@ mod stop;
 mod summary;
 #[cfg(test)]
 mod tests;
-mod text;
 mod told;
 
 pub use line::put_line;
 pub use port::print_port;
 pub use stop::PrintStop;
 pub use summary::print_summary;
-pub use text::print_text;
-pub use told::{print_frame, print_line, print_refused, print_told};
+pub use told::{print_frame, print_line, print_refused};

@@ -1,11 +1,9 @@
-// The text of runs, as tables, and what a sink holds of it that is slow, fails or has little room.
-use crate::{PrintStop, print_port, print_summary, print_text, print_told};
-use ng_base::{Bytes, Errno, Name, NoMemory, Packet};
-use ng_machine::{PortTotals, Told, Totals};
+// The parts of a text, as tables, and what a sink holds of one that is slow, fails or has little room.
+use crate::{PrintStop, print_frame, print_port, print_refused, print_summary};
+use ng_base::{Errno, Name, NoMemory};
+use ng_machine::{PortTotals, Totals};
 use ng_outside::MemSink;
-use ngctl_words::{Script, read_script};
 use std::alloc::Global;
-use std::process::Abort;
 use std::test::Fail;
 
 const NOTHING: Totals = Totals {
@@ -22,19 +20,7 @@ const NOTHING: Totals = Totals {
     hooks: 0,
 };
 
-// A packet that is written to an echo and comes back.
-const ECHO_SCRIPT: &str = "mkpeer . echo a b\nwrite a 1 2 3\n";
-
-const ECHO_TEXT: &str = "+ mkpeer . echo a b
-+ write a 1 2 3
-data on a:
-00000: 01 02 03
-summary: fed 2 of 2, applied 3, data refused 0
-dropped: node gone 0, hook gone 0, budget 0
-lost: no peer 0, node gone 0, full 0, spool 0
-graph: nodes 2, hooks 2
-";
-
+// The summary of an echo.
 const ECHO_TOTALS: Totals = Totals {
     applied: 3,
     nodes: 2,
@@ -42,80 +28,61 @@ const ECHO_TOTALS: Totals = Totals {
     ..NOTHING
 };
 
+const ECHO_SUMMARY: &str = "summary: fed 2 of 2, applied 3, data refused 0
+dropped: node gone 0, hook gone 0, budget 0
+lost: no peer 0, node gone 0, full 0, spool 0
+graph: nodes 2, hooks 2
+";
+
 // A sink whose call of the number `failing` fails (0: none).
 fn sink_of(alloc: Global, room: usize, slow: bool, failing: u64) -> Result<MemSink, NoMemory> {
     let failing = [failing].to_vec(alloc)?;
     MemSink::new(alloc, room, slow, failing)
 }
 
-fn print_echo(alloc: Global, out: &mut MemSink) -> Result<Result<(), PrintStop>, Fail> {
-    let script = read_script(alloc, ECHO_SCRIPT.as_bytes())?;
-    let told = [
-        Told::Line { command: 1 },
-        Told::Line { command: 2 },
-        Told::Frame {
-            hook: Name::read(b"a")?,
-            packet: Packet::new(alloc, &[1, 2, 3])?,
-        },
-    ];
-    Ok(print_text(alloc, &script, &told, &ECHO_TOTALS, 2, 2, false, out))
-}
-
 #[test]
-fn an_echo_is_told_line_by_line(rt: HostRuntime) -> Result<(), Fail> {
-    for (slow, puts) in [(false, 8), (true, ECHO_TEXT.len())] {
-        let mut sink = sink_of(rt.alloc(), 1000, slow, 0)?;
-        assert_eq!(rt; print_echo(rt.alloc(), &mut sink)?, Ok(()), "slow: {slow}");
-        assert_eq!(rt; str::from_utf8(sink.bytes())?, ECHO_TEXT, "slow: {slow}");
-        assert_eq!(rt; sink.calls() as usize, puts, "slow: {slow}");
-    }
-    Ok(())
-}
-
-#[test]
-fn a_failed_put_ends_the_text(rt: HostRuntime) -> Result<(), Fail> {
+fn a_summary_is_put_line_by_line(rt: HostRuntime) -> Result<(), Fail> {
+    // The room, whether it is slow, the call that fails, how it ends, what it holds, and the calls.
     let rows = [
-        (1, ""),
-        (2, "+ mkpeer . echo a b\n"),
-        (4, "+ mkpeer . echo a b\n+ write a 1 2 3\ndata on a:\n"),
+        (1000, false, 0, Ok(()), ECHO_SUMMARY.len(), 4),
         (
-            6,
-            "+ mkpeer . echo a b\n+ write a 1 2 3\ndata on a:\n00000: 01 02 03\nsummary: fed 2 of 2, applied 3, data refused 0\n",
+            1000,
+            true,
+            0,
+            Ok(()),
+            ECHO_SUMMARY.len(),
+            ECHO_SUMMARY.len(),
         ),
+        (1000, false, 1, Err(PrintStop::Fault), 0, 1),
+        (1000, false, 2, Err(PrintStop::Fault), 47, 2),
     ];
-    for (failing, held) in rows {
-        let mut sink = sink_of(rt.alloc(), 1000, false, failing)?;
-        let answer = print_echo(rt.alloc(), &mut sink)?;
-        assert_eq!(rt; answer, Err(PrintStop::Fault), "at {failing}");
-        assert_eq!(rt; str::from_utf8(sink.bytes())?, held, "at {failing}");
-        assert_eq!(rt; sink.calls(), failing);
+    for (room, slow, failing, end, held, calls) in rows {
+        let mut sink = sink_of(rt.alloc(), room, slow, failing)?;
+        let answer = print_summary(rt.alloc(), &ECHO_TOTALS, 2, 2, false, &mut sink);
+        assert_eq!(rt; answer, end, "slow: {slow}, fails at {failing}");
+        assert_eq!(rt;
+            sink.bytes(),
+            &ECHO_SUMMARY.as_bytes()[..held],
+            "slow: {slow}, fails at {failing}"
+        );
+        assert_eq!(rt;
+            sink.calls() as usize,
+            calls,
+            "slow: {slow}, fails at {failing}"
+        );
     }
     Ok(())
 }
 
 #[test]
 fn a_full_sink_holds_a_front(rt: HostRuntime) -> Result<(), Fail> {
-    let mut sink = sink_of(rt.alloc(), 23, false, 0)?;
-    assert_eq!(rt; print_echo(rt.alloc(), &mut sink)?, Err(PrintStop::Fault));
-    assert_eq!(rt; sink.bytes(), b"+ mkpeer . echo a b\n+ w".as_slice());
-    Ok(())
-}
-
-#[test]
-fn an_empty_run_has_a_summary_alone(rt: HostRuntime) -> Result<(), Fail> {
-    let script = read_script(rt.alloc(), b"")?;
-    let totals = Totals {
-        nodes: 1,
-        ..NOTHING
-    };
-    let mut sink = sink_of(rt.alloc(), 1000, false, 0)?;
-    print_text(rt.alloc(), &script, &[], &totals, 0, 0, false, &mut sink)?;
-    let text = "summary: fed 0 of 0, applied 0, data refused 0
-dropped: node gone 0, hook gone 0, budget 0
-lost: no peer 0, node gone 0, full 0, spool 0
-graph: nodes 1, hooks 0
-";
-    assert_eq!(rt; str::from_utf8(sink.bytes())?, text);
+    let mut sink = sink_of(rt.alloc(), 52, false, 0)?;
+    let answer = print_summary(rt.alloc(), &ECHO_TOTALS, 2, 2, false, &mut sink);
+    assert_eq!(rt; answer, Err(PrintStop::Fault));
+    assert_eq!(rt;
+        sink.bytes(),
+        b"summary: fed 2 of 2, applied 3, data refused 0\ndropp".as_slice()
+    );
     Ok(())
 }
 
@@ -166,13 +133,8 @@ fn a_port_has_a_line(rt: HostRuntime) -> Result<(), Fail> {
     Ok(())
 }
 
-fn no_script(alloc: Global) -> Result<Script, Fail> {
-    Ok(read_script(alloc, b"")?)
-}
-
 #[test]
 fn a_refused_command_is_told_with_its_error(rt: HostRuntime) -> Result<(), Fail> {
-    let script = no_script(rt.alloc())?;
     for (errno, why, text) in [
         (Errno::EXIST, "", "error 17: File exists\n"),
         (
@@ -181,13 +143,8 @@ fn a_refused_command_is_told_with_its_error(rt: HostRuntime) -> Result<(), Fail>
             "error 22: Invalid argument (bad path)\n",
         ),
     ] {
-        let told = Told::Refused {
-            command: 1,
-            errno,
-            why: Bytes(Vec::from_slice(rt.alloc(), why.as_bytes())?),
-        };
         let mut sink = sink_of(rt.alloc(), 1000, false, 0)?;
-        print_told(rt.alloc(), &script, &told, &mut sink)?;
+        print_refused(rt.alloc(), errno, why.as_bytes(), &mut sink)?;
         assert_eq!(rt; str::from_utf8(sink.bytes())?, text);
         assert_eq!(rt; sink.calls(), 1);
     }
@@ -203,7 +160,6 @@ const BYTES: [u8; 33] = [
 
 #[test]
 fn a_dump_has_a_line_for_sixteen_bytes(rt: HostRuntime) -> Result<(), Fail> {
-    let script = no_script(rt.alloc())?;
     let rows = [
         (0, "data on hook-1:\n"),
         (1, "data on hook-1:\n00000: 9a\n"),
@@ -221,12 +177,10 @@ fn a_dump_has_a_line_for_sixteen_bytes(rt: HostRuntime) -> Result<(), Fail> {
         ),
     ];
     for (length, text) in rows {
-        let told = Told::Frame {
-            hook: Name::read(b"hook-1")?,
-            packet: Packet::new(rt.alloc(), BYTES.get(..length).unwrap_or(&[]))?,
-        };
+        let hook = Name::read(b"hook-1")?;
+        let packet = BYTES.get(..length).unwrap_or(&[]);
         let mut sink = sink_of(rt.alloc(), 1000, false, 0)?;
-        print_told(rt.alloc(), &script, &told, &mut sink)?;
+        print_frame(rt.alloc(), &hook, packet, &mut sink)?;
         assert_eq!(rt; str::from_utf8(sink.bytes())?, text, "{length} bytes");
     }
     Ok(())
@@ -234,14 +188,9 @@ fn a_dump_has_a_line_for_sixteen_bytes(rt: HostRuntime) -> Result<(), Fail> {
 
 #[test]
 fn offsets_have_five_digits(rt: HostRuntime) -> Result<(), Fail> {
-    let script = no_script(rt.alloc())?;
     let bytes = vec![in rt.alloc(); 0x5a; 65_552]?;
-    let told = Told::Frame {
-        hook: Name::read(b"a")?,
-        packet: Packet::new(rt.alloc(), bytes.as_slice())?,
-    };
     let mut sink = sink_of(rt.alloc(), 300_000, false, 0)?;
-    print_told(rt.alloc(), &script, &told, &mut sink)?;
+    print_frame(rt.alloc(), &Name::read(b"a")?, bytes.as_slice(), &mut sink)?;
     let text = str::from_utf8(sink.bytes())?;
     // A line of sixteen bytes has 55 bytes.
     assert_eq!(rt; text.len(), 11 + 4_097 * 55);

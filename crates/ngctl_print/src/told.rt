@@ -1,17 +1,13 @@
 // What the one who gave the commands is told.
 ghost use Rattle.std.specs.Prelude.{◌≡◌, ◌≤◌, ◌++◌, length, IfOk, OnOk, string_bytes};
-ghost use Rattle.std.specs.List.{flat_map};
-ghost use Rattle.ngctl_print.specs.Fits.{ToldFits, AllToldFit};
 ghost use Rattle.ngctl_print.specs.Prints.{Prints};
-ghost use Rattle.ngctl_print.specs.Text.{command_line, why_text, refused_line, frame_line, frame_text, told_text};
+ghost use Rattle.ngctl_print.specs.Text.{command_line, why_text, refused_line, frame_line, frame_text};
 
 use crate::PrintStop;
 use crate::dump::print_dump;
 use crate::line::put_line;
 use ng_base::{Errno, Name};
-use ng_machine::Told;
 use ng_outside::Sink;
-use ngctl_words::Script;
 use std::alloc::{AllocError, Global};
 
 #[tactic(auto, unfolding(crate::specs::Text::command_line))]
@@ -100,46 +96,4 @@ pub fn print_frame<O: Sink>(
     let head = frame_line(alloc, hook)?;
     put_line(out, head.as_bytes())?;
     print_dump(alloc, packet, out)
-}
-
-/// Puts one entry of what is told: a command's line behind `+ `, the error of one that was refused
-/// with its words, or the hook that a packet came by and the dump of its bytes. A packet has at most
-/// 262,144 bytes, as its offsets have five digits. Help and answers are not told.
-///
-/// # Errors
-/// `Fault` where the sink failed, `NoMemory` for want of memory. A front of the text was put then.
-pub fn print_told<O: Sink>(
-    alloc: Global,
-    script: &Script,
-    told: &Told,
-    out: &mut O,
-) -> Result<(), PrintStop>
-    requires { ToldFits told.now }
-    ensures { Prints (O.contents out.old) (O.contents out.new) (O.faults out.old) (O.faults out.new) result (told_text script.now told.now) }
-{
-    match told {
-        Told::Line { command } => print_line(alloc, script.line(*command), out),
-        Told::Refused { errno, why, .. } => print_refused(alloc, *errno, why.0.as_slice(), out),
-        Told::Help { .. } | Told::Answer { .. } => unreachable!(),
-        Told::Frame { hook, packet } => print_frame(alloc, hook, packet.bytes(), out),
-    }
-}
-
-/// Puts the entries, in order.
-///
-/// # Errors
-/// As `print_told`.
-pub(crate) fn print_all_told<O: Sink>(
-    alloc: Global,
-    script: &Script,
-    told: &[Told],
-    out: &mut O,
-) -> Result<(), PrintStop>
-    requires { AllToldFit told.now }
-    ensures { Prints (O.contents out.old) (O.contents out.new) (O.faults out.old) (O.faults out.new) result (flat_map (told_text script.now) told.now) }
-{
-    for entry in told {
-        print_told(alloc, script, entry, out)?;
-    }
-    Ok(())
 }

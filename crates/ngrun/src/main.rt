@@ -1,12 +1,14 @@
-//! `ngrun SCRIPT`: runs the script of commands and prints what they tell, the packets that come back and a summary.
+//! `ngrun [-w WORKERS] [-b BUDGET] [-n NAME] [-j JOURNAL] SCRIPT [PORT=IN,OUT ..]`: runs a script of ngctl(8) commands and
+//! the captures that come in by the ports, prints what the commands tell and a summary, and writes the captures that leave
+//! and the journal. `-g N` in place of SCRIPT and the ports runs a workload that is made of a number.
 //!
-//! The status is 0 where all went well, 2 where the run stopped at its limit, 64 where the words are wrong, 65 where the
-//! script is, 66 where it can't be read, 74 where the output can't be written, and 71 for want of memory. What went wrong
-//! is told on standard error.
+//! The status is 0 where all went well, 1 where a command was refused, 2 where the run stopped at its limit, 64 where the
+//! words are wrong, 65 where a file is not in form or too big, 66 where one can't be read, 74 where one or the output can't
+//! be written, and 71 where memory ran out. What went wrong is told on standard error.
 #![tactic(auto)]
 
 mod program;
-mod stock;
+mod run;
 mod tell;
 #[cfg(test)]
 mod tests;
@@ -29,7 +31,7 @@ fn main(rt: HostRuntime) -> ExitCode {
         return ExitCode::from(wordless(rt.alloc(), ErrorKind::OutOfMemory, &mut errors));
     };
     let words = behind_name(args);
-    let mut files = StdFiles::new(&rt);
+    let mut files = StdFiles::new(rt.alloc(), &rt);
     let mut out = StdSink::new(rt.stdout());
     let status = program(rt.alloc(), &words, &mut files, &mut out, &mut errors);
     ExitCode::from(status)

@@ -1,56 +1,120 @@
-// The whole program over files and sinks in memory: the status, the text, and the line on standard error.
+// Whole runs over files and sinks in memory: the status, the text, the line on standard error and the files that are
+// written.
+ghost use Rattle.ng_outside.specs.Memory.{NamesDiffer, FitRooms};
+
+mod captures;
+mod commands;
+mod faults;
+mod limits;
+mod outputs;
+mod packets;
+mod ports;
+mod refusals;
+mod types;
+
 use crate::program::program;
-use crate::words::{behind_name, wordless};
 use ng_base::NoMemory;
 use ng_outside::{MemFile, MemFiles, MemSink};
 use std::alloc::{AllocError, Global};
-use std::io::ErrorKind;
 use std::process::Abort;
 use std::test::Fail;
 
-const ECHO: &str = "mkpeer . echo a b\nwrite a 1 2 3\n";
+const USAGE: &str =
+    "ngrun: usage: ngrun [-w WORKERS] [-b BUDGET] [-n NAME] [-j JOURNAL] SCRIPT [PORT=IN,OUT ..]\n";
 
-const ECHO_TEXT: &str = "+ mkpeer . echo a b
-+ write a 1 2 3
-data on a:
-00000: 01 02 03
-summary: fed 2 of 2, applied 3, data refused 0
-dropped: node gone 0, hook gone 0, budget 0
-lost: no peer 0, node gone 0, full 0, spool 0
-graph: nodes 2, hooks 2
-";
+// What is written in these tests is shorter.
+const ROOM: usize = 1 << 19;
 
-// Text that may come is shorter.
-const ROOM: usize = 4096;
-
-// What is expected of the program with these words.
+// A file: its name and what it holds.
 #[derive(Drop)]
-struct NodeRecord {
-    words: &'static [&'static str],
-    status: u8,
-    text: &'static str,
-    told: &'static str,
+struct Held<'a> {
+    name: &'a str,
+    bytes: &'a [u8],
 }
 
-fn words_of(alloc: Global, texts: &[&str]) -> Result<Vec<String>, AllocError> {
+fn file<'a>(name: &'a str, bytes: &'a [u8]) -> Held<'a> {
+    Held { name, bytes }
+}
+
+// A call of the program: its words as they are typed, the files that are there, and what comes of it.
+#[derive(Drop)]
+struct Run<'a> {
+    // What it is an example of.
+    shows: &'a str,
+    words: &'a str,
+    files: &'a [Held<'a>],
+    status: u8,
+    text: &'a str,
+    told: &'a str,
+    // What files hold afterwards.
+    written: &'a [Held<'a>],
+}
+
+// A run of a script alone.
+#[derive(Drop)]
+struct ScriptRun<'a> {
+    // What it is an example of.
+    shows: &'a str,
+    script: &'a str,
+    status: u8,
+    text: &'a str,
+}
+
+// Files to come, each with room to be written.
+#[derive(Drop)]
+struct Shelf {
+    files: Vec<MemFile>,
+    ghost names: { NamesDiffer files.items },
+    ghost rooms: { FitRooms files.items },
+}
+
+impl Shelf {
+    // Adds a file of these bytes, with room for so many if it is written.
+    fn add(&mut self, alloc: Global, name: &str, bytes: Vec<u8>, room: usize) -> Result<(), Fail> {
+        let is_new = self.files.iter().all(|file| file.name.as_str() != name);
+        if !is_new {
+            return Err(Fail::new("two files of one name"));
+        }
+        let room = bytes.len().max(room);
+        let name = String::from_str(alloc, name)?;
+        self.files.push(MemFile {
+            name,
+            bytes,
+            room,
+            slow: false,
+        })?;
+        Ok(())
+    }
+
+    // The files, whose call of this number fails.
+    fn into_files(self, alloc: Global, failing: u64) -> Result<MemFiles, NoMemory> {
+        let failing = [failing].to_vec(alloc)?;
+        MemFiles::new(alloc, self.files, failing)
+    }
+}
+
+fn empty_shelf(alloc: Global) -> Shelf {
+    Shelf {
+        files: Vec::new(alloc),
+    }
+}
+
+// The words of a line.
+fn words_in(alloc: Global, line: &str) -> Result<Vec<String>, AllocError> {
     let mut words = Vec::new(alloc);
-    for text in texts {
-        words.push(String::from_str(alloc, text)?)?;
+    for word in line.split_whitespace() {
+        words.push(String::from_str(alloc, word)?)?;
     }
     Ok(words)
 }
 
-// Files that hold one script, of the name `script`.
-fn script_of(alloc: Global, bytes: &[u8]) -> Result<MemFiles, NoMemory> {
-    let script = MemFile {
-        name: String::from_str(alloc, "script")?,
-        bytes: Vec::from_slice(alloc, bytes)?,
-        room: bytes.len(),
-        slow: false,
-    };
-    let mut held = Vec::new(alloc);
-    held.push(script)?;
-    MemFiles::new(alloc, held, Vec::new(alloc))
+// Files that hold this, and whose call of this number fails.
+fn files_of(alloc: Global, files: &[Held], failing: u64) -> Result<MemFiles, Fail> {
+    let mut shelf = empty_shelf(alloc);
+    for file in files {
+        shelf.add(alloc, file.name, Vec::from_slice(alloc, file.bytes)?, ROOM)?;
+    }
+    Ok(shelf.into_files(alloc, failing)?)
 }
 
 // A sink whose call of this number fails.
@@ -59,144 +123,53 @@ fn sink(alloc: Global, failing: u64) -> Result<MemSink, NoMemory> {
     MemSink::new(alloc, ROOM, false, failing)
 }
 
-// Runs the program on a script, with the call of the output that fails.
-fn check(
-    rt: &impl Abort,
-    alloc: Global,
-    row: &NodeRecord,
-    script: &[u8],
-    failing: u64,
-) -> Result<(), Fail> {
-    let words = words_of(alloc, row.words)?;
-    let mut files = script_of(alloc, script)?;
-    let mut out = sink(alloc, failing)?;
+fn holds(files: &MemFiles, file: &Held) -> bool {
+    files.bytes(file.name) == Some(file.bytes)
+}
+
+// Runs the program over these files and compares what comes of it.
+fn check_over(rt: &impl Abort, alloc: Global, run: &Run, files: &mut MemFiles) -> Result<(), Fail> {
+    let words = words_in(alloc, run.words)?;
+    let mut out = sink(alloc, 0)?;
     let mut errors = sink(alloc, 0)?;
-    let status = program(alloc, &words, &mut files, &mut out, &mut errors);
-    assert_eq!(rt; status, row.status);
-    assert_eq!(rt; out.bytes(), row.text.as_bytes());
-    assert_eq!(rt; errors.bytes(), row.told.as_bytes());
+    let status = program(alloc, &words, files, &mut out, &mut errors);
+    assert_eq!(rt; str::from_utf8(errors.bytes())?, run.told, "{}", run.shows);
+    assert_eq!(rt; str::from_utf8(out.bytes())?, run.text, "{}", run.shows);
+    assert_eq!(rt; status, run.status, "{}", run.shows);
+    for file in run.written {
+        assert!(rt;
+            holds(files, file),
+            "{} holds that: {}",
+            file.name,
+            run.shows
+        );
+    }
     Ok(())
 }
 
-#[test]
-fn an_echo(rt: HostRuntime) -> Result<(), Fail> {
-    let row = NodeRecord {
-        words: &["script"],
-        status: 0,
-        text: ECHO_TEXT,
+// The same over the files that the run names.
+fn check(rt: &impl Abort, alloc: Global, run: &Run) -> Result<(), Fail> {
+    let mut files = files_of(alloc, run.files, 0)?;
+    check_over(rt, alloc, run, &mut files)
+}
+
+// The same with a script alone.
+fn check_script(rt: &impl Abort, alloc: Global, run: &ScriptRun) -> Result<(), Fail> {
+    let run = Run {
+        shows: run.shows,
+        words: "script",
+        files: &[file("script", run.script.as_bytes())],
+        status: run.status,
+        text: run.text,
         told: "",
+        written: &[],
     };
-    check(&rt, rt.alloc(), &row, ECHO.as_bytes(), 0)
+    check(rt, alloc, &run)
 }
 
-#[test]
-fn wrong_words_and_files(rt: HostRuntime) -> Result<(), Fail> {
-    let rows = [
-        NodeRecord {
-            words: &[],
-            status: 64,
-            text: "",
-            told: "ngrun: usage: ngrun SCRIPT\n",
-        },
-        NodeRecord {
-            words: &["-v"],
-            status: 64,
-            text: "",
-            told: "ngrun: usage: ngrun SCRIPT\n",
-        },
-        NodeRecord {
-            words: &["script", "out"],
-            status: 64,
-            text: "",
-            told: "ngrun: usage: ngrun SCRIPT\n",
-        },
-        NodeRecord {
-            words: &["a b.ng"],
-            status: 66,
-            text: "",
-            told: "ngrun: can't read a b.ng\n",
-        },
-    ];
-    for row in &rows {
-        check(&rt, rt.alloc(), row, ECHO.as_bytes(), 0)?;
+fn check_scripts(rt: &impl Abort, alloc: Global, runs: &[ScriptRun]) -> Result<(), Fail> {
+    for run in runs {
+        check_script(rt, alloc, run)?;
     }
-    Ok(())
-}
-
-#[test]
-fn a_wrong_line(rt: HostRuntime) -> Result<(), Fail> {
-    let told = "ngrun: script line 2: not built yet\n";
-    let row = NodeRecord {
-        words: &["script"],
-        status: 65,
-        text: "",
-        told,
-    };
-    check(
-        &rt,
-        rt.alloc(),
-        &row,
-        b"mkpeer . echo a b\nwrite a 256\n",
-        0,
-    )
-}
-
-#[test]
-fn a_script_that_is_too_big(rt: HostRuntime) -> Result<(), Fail> {
-    let row = NodeRecord {
-        words: &["script"],
-        status: 65,
-        text: "",
-        told: "ngrun: too big: script\n",
-    };
-    let bytes = vec![in rt.alloc(); b'\n'; 1_048_577]?;
-    check(&rt, rt.alloc(), &row, &bytes, 0)
-}
-
-#[test]
-fn an_output_that_fails(rt: HostRuntime) -> Result<(), Fail> {
-    let text = "+ mkpeer . echo a b\n";
-    let row = NodeRecord {
-        words: &["script"],
-        status: 74,
-        text,
-        told: "ngrun: can't write output\n",
-    };
-    check(&rt, rt.alloc(), &row, ECHO.as_bytes(), 2)
-}
-
-#[test]
-fn an_error_output_that_fails(rt: HostRuntime) -> Result<(), Fail> {
-    let mut files = script_of(rt.alloc(), b"")?;
-    let mut out = sink(rt.alloc(), 0)?;
-    let mut errors = sink(rt.alloc(), 1)?;
-    let status = program(rt.alloc(), &[], &mut files, &mut out, &mut errors);
-    assert_eq!(&rt; status, 64);
-    assert_eq!(&rt; errors.bytes(), b"".as_slice());
-    Ok(())
-}
-
-#[test]
-fn words_that_cannot_be_taken(rt: HostRuntime) -> Result<(), Fail> {
-    let rows = [
-        (ErrorKind::OutOfMemory, 71, "ngrun: out of memory\n"),
-        (ErrorKind::InvalidData, 64, "ngrun: usage: ngrun SCRIPT\n"),
-    ];
-    for (kind, status, told) in rows {
-        let mut errors = sink(rt.alloc(), 0)?;
-        assert_eq!(&rt; wordless(rt.alloc(), kind, &mut errors), status);
-        assert_eq!(&rt; errors.bytes(), told.as_bytes());
-    }
-    Ok(())
-}
-
-#[test]
-fn words_behind_the_name(rt: HostRuntime) -> Result<(), Fail> {
-    let args = words_of(rt.alloc(), &["ngrun", "script", "more"])?;
-    let words = behind_name(args);
-    assert_eq!(&rt; words.len(), 2);
-    assert_eq!(&rt; words.first().map(|word| word.as_str()), Some("script"));
-    let none = behind_name(Vec::new(rt.alloc()));
-    assert!(&rt; none.is_empty());
     Ok(())
 }

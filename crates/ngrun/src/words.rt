@@ -24,7 +24,7 @@ pub fn behind_name(args: Vec<String>) -> Vec<String>
     words
 }
 
-/// Tells why the words couldn't be taken, and gives the exit status: 71 for want of memory, 64 where a word is no
+/// Tells why the words couldn't be taken, and gives the exit status: 71 where memory ran out, 64 where a word is no
 /// UTF-8.
 pub fn wordless<E: Sink>(alloc: Global, kind: ErrorKind, errors: &mut E) -> u8
     ensures memory { kind ≡ ErrorKind.OutOfMemory → IsWordless Fault.NoMemory (record { old = E.contents errors.old; now = E.contents errors.new; before = E.faults errors.old; after = E.faults errors.new }) result }

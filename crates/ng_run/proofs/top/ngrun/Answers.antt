@@ -1,20 +1,36 @@
--- A script has one reading or one first line that has none.
-use Rattle.ngctl_words.proofs.Readings.{one_script, script_or_fault, one_line}
-use Rattle.ng_core.proofs.PlainRun.{no_messages}
-use Rattle.ng_run.proofs.Exactly.{status_exactly, usage_exactly, too_big_comes, unbuilt_comes, runs_exactly}
+use Rattle.std.proofs.Common.{map, string_bytes}
+use Rattle.ng_run.proofs.Exactly.{comes, completes, does_all, usage_comes, keeps_others, writes_each, reading_only, writing_only, refuses_quietly, leaves_prefix, runs_plainly}
 use Rattle.ng_run.proofs.top.ngrun.Goals as goal
 
-pub returns-clause-unbuilt : goal.returns-clause-unbuilt
-returns-clause-unbuilt g c = λ name bytes line is told small first. unbuilt_comes no_messages _ _ _ _ _ _ _ script_or_fault one_line _ c.run_words.result.fault name bytes line (c.run_words.ensures.ends no_messages) is told small first
-
-pub returns-clause-runs : goal.returns-clause-runs
-returns-clause-runs g c = λ messages name bytes script is told small read. runs_exactly messages _ _ _ _ _ _ _ script_or_fault one_script _ c.run_words.result.fault name bytes script (c.run_words.ensures.ends messages) is told small read
-
-pub returns-clause-status : goal.returns-clause-status
-returns-clause-status g c = status_exactly no_messages _ _ _ _ _ _ _ _ _ (c.run_words.ensures.ends no_messages)
-
 pub returns-clause-usage : goal.returns-clause-usage
-returns-clause-usage g c = usage_exactly no_messages _ _ _ _ _ _ _ _ _ (c.run_words.ensures.ends no_messages)
+returns-clause-usage g c = usage_comes _ _ _ _ _ _ c.run_call.ensures
 
-pub returns-clause-too_big : goal.returns-clause-too_big
-returns-clause-too_big g c = λ name bytes is told big. too_big_comes no_messages _ _ _ _ _ _ _ _ c.run_words.result.fault name bytes (c.run_words.ensures.ends no_messages) is told big
+pub returns-clause-comes : goal.returns-clause-comes
+returns-clause-comes g c = comes _ _ _ _ _ _ c.run_call.ensures
+
+pub returns-clause-complete : goal.returns-clause-complete
+returns-clause-complete g c = completes _ _ _ _ _ _ c.run_call.ensures
+
+pub returns-clause-plain : goal.returns-clause-plain
+returns-clause-plain g c = runs_plainly _ _ _ _ _ _ c.run_call.ensures
+
+pub returns-clause-reads : goal.returns-clause-reads
+returns-clause-reads g c = reading_only _ _ _ _ _ _ c.run_call.ensures
+
+pub returns-clause-writes : goal.returns-clause-writes
+returns-clause-writes g c = writing_only _ _ _ _ _ _ c.run_call.ensures
+
+pub returns-clause-quiet : goal.returns-clause-quiet
+returns-clause-quiet g c = refuses_quietly _ _ _ _ _ _ c.run_call.ensures
+
+pub returns-clause-done : goal.returns-clause-done
+returns-clause-done g c = does_all _ _ _ _ _ _ c.run_call.ensures
+
+pub returns-clause-others : goal.returns-clause-others
+returns-clause-others g c = keeps_others _ _ _ _ _ _ c.run_call.ensures
+
+pub returns-clause-each : goal.returns-clause-each
+returns-clause-each g c = writes_each _ _ _ _ _ (map (λ word. string_bytes word) c.args.words.now) c.run_call.ensures
+
+pub returns-clause-prefix : goal.returns-clause-prefix
+returns-clause-prefix g c = leaves_prefix _ _ _ _ _ _ c.run_call.ensures

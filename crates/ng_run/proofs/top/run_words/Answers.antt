@@ -1,29 +1,36 @@
--- Each answer has its cause.
-use Rattle.std.proofs.Common.{◌≡◌, refl, map, Some, string_bytes, arith}
-use Rattle.std.proofs.lemmas.Grind.{common_steps}
-use Rattle.ng_run.specs.Words.{script_name}
-use Rattle.ng_run.proofs.Ending.{unreadable_ends, too_big_ends, no_memory_ends, ran_ends}
+use Rattle.std.proofs.Common.{List, ap, refl, sym, ◌∙◌, subst}
+use Rattle.ng_words.specs.declared.port.PortWord.{PortWord}
+use Rattle.ng_words.specs.declared.words.Source.{Source}
+use Rattle.ng_words.specs.declared.words.Source.TheVariants.{FromFiles}
+use Rattle.ng_run.specs.Parts.{of_files, storing, outside, counting, AllStop}
+use Rattle.ng_run.proofs.Reading.{memory_all}
+use Rattle.ng_run.proofs.Ending.{ends_since, read_stops, memory_refuses}
 use Rattle.ng_run.proofs.top.run_words.Goals as goal
 
-pub returns-in-Err-Fault-clause-ends : goal.returns-in-Err-Fault-clause-ends
-returns-in-Err-Fault-clause-ends g c = λ messages.
-    let is : script_name (map (λ word. string_bytes word) c.args.words.now) ≡ Some c.in-Some.name.now = grind (arith, common_steps) in
-    unreadable_ends messages _ _ c.in-Some.name.now is _ _ _ _ _ _ _ c.refused-in-Err-Fault.ensures.status c.refused-in-Err-Fault.ensures.journal c.refused-in-Err-Fault.ensures.fault refl
-    (c.in-Err-Fault.ensures.fault (rw c.in-Err-Fault.field-0-is refl))
+pub returns-in-Ok : goal.returns-in-Ok
+returns-in-Ok g c =
+    ends_since (g.M.Machine.kinds c.args.machine) c.args.words.now (g.O.Sink.contents c.args.out.now) (g.O.Sink.contents c.run_read.new.out)
+    (g.F.Files.contents c.run_read.new.files) (g.O.Sink.faults c.args.out.now) (g.O.Sink.faults c.run_read.new.out)
+    (g.F.Files.faults c.args.files.now) (g.F.Files.faults c.read_files.new.files) (g.F.Files.faults c.run_read.new.files) c.in-Ok.ensures.counts
+    (g.F.Files.contents c.args.files.now) (g.F.Files.contents c.read_files.new.files)
+    c.run_read.result.status c.run_read.result.journal.items c.run_read.result.fault c.in-Ok.ensures.same c.run_read.ensures
 
-pub returns-in-Err-TooBig-clause-ends : goal.returns-in-Err-TooBig-clause-ends
-returns-in-Err-TooBig-clause-ends g c = λ messages.
-    let is : script_name (map (λ word. string_bytes word) c.args.words.now) ≡ Some c.in-Some.name.now = grind (arith, common_steps) in
-    too_big_ends messages _ _ c.in-Some.name.now is _ _ _ _ _ _ _ c.refused-in-Err-TooBig.ensures.status c.refused-in-Err-TooBig.ensures.journal c.refused-in-Err-TooBig.ensures.fault refl
-    (c.in-Err-TooBig.ensures.too_big (rw c.in-Err-TooBig.field-0-is refl))
+pub returns-in-Err : goal.returns-in-Err
+returns-in-Err g c =
+    read_stops (g.M.Machine.kinds c.args.machine) c.args.words.now (g.O.Sink.contents c.args.out.now)
+    (g.F.Files.contents c.args.files.now) (g.F.Files.contents c.read_files.new.files)
+    (g.F.Files.faults c.args.files.now) (g.F.Files.faults c.read_files.new.files) (g.O.Sink.faults c.args.out.now)
+    c.refused.result.status c.refused.result.journal.items c.refused.result.fault c.in-Err.fault
+    (subst (λ (s : Source). AllStop (of_files (g.F.Files.contents c.args.files.now) (g.F.Files.contents c.read_files.new.files) (g.F.Files.faults c.args.files.now) (g.F.Files.faults c.read_files.new.files)) s c.in-Err.fault)
+    (ap (λ (ps : List PortWord). FromFiles c.in-FromFiles.script ps) c.as_slice.ensures ∙ sym c.in-FromFiles.is) c.in-Err.ensures.err)
+    c.in-Err.ensures.same c.refused.ensures.status c.refused.ensures.journal c.refused.ensures.fault
 
-pub returns-in-Err-NoMemory-clause-ends : goal.returns-in-Err-NoMemory-clause-ends
-returns-in-Err-NoMemory-clause-ends g c = λ messages.
-    let is : script_name (map (λ word. string_bytes word) c.args.words.now) ≡ Some c.in-Some.name.now = grind (arith, common_steps) in
-    no_memory_ends messages _ _ c.in-Some.name.now is _ _ _ _ _ _ _ c.refused-in-Err-NoMemory.ensures.status c.refused-in-Err-NoMemory.ensures.journal c.refused-in-Err-NoMemory.ensures.fault refl
-
-pub returns-in-Ok-read_script-clause-ends : goal.returns-in-Ok-read_script-clause-ends
-returns-in-Ok-read_script-clause-ends g c = λ messages.
-    let is : script_name (map (λ word. string_bytes word) c.args.words.now) ≡ Some c.in-Some.name.now = grind (arith, common_steps) in
-    ran_ends messages _ _ c.in-Some.name.now is _ _ _ _ c.deref.result.now (rw c.deref.ensures.value c.in-Ok.ensures.whole) (rw c.deref.ensures.len c.in-Ok.ensures.within)
-    c.in-Ok-read_script.script _ _ _ c.in-Ok-read_script.ensures (c.run_script.ensures messages)
+pub returns-in-Err-read_made : goal.returns-in-Err-read_made
+returns-in-Err-read_made g c =
+    let all = memory_all (outside (storing (g.O.Sink.contents c.args.out.now) (g.F.Files.contents c.args.files.now)) (storing (g.O.Sink.contents c.args.out.now) (g.F.Files.contents c.args.files.now))
+    (counting (g.O.Sink.faults c.args.out.now) (g.F.Files.faults c.args.files.now)) (counting (g.O.Sink.faults c.args.out.now) (g.F.Files.faults c.args.files.now))) c.args.words.now.source in
+    memory_refuses (g.M.Machine.kinds c.args.machine) c.args.words.now
+    (outside (storing (g.O.Sink.contents c.args.out.now) (g.F.Files.contents c.args.files.now)) (storing (g.O.Sink.contents c.args.out.now) (g.F.Files.contents c.args.files.now))
+    (counting (g.O.Sink.faults c.args.out.now) (g.F.Files.faults c.args.files.now)) (counting (g.O.Sink.faults c.args.out.now) (g.F.Files.faults c.args.files.now)))
+    all.0 all.1 (record { sink = refl; files = refl }) c.refused-in-Err-read_made.result.status c.refused-in-Err-read_made.result.journal.items
+    c.refused-in-Err-read_made.result.fault c.refused-in-Err-read_made.ensures.status c.refused-in-Err-read_made.ensures.journal c.refused-in-Err-read_made.ensures.fault

@@ -1,4 +1,0 @@
-pub mod Numbers
-pub mod Built
-pub mod Make
-pub mod Going

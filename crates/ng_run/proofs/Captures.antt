@@ -1,0 +1,22 @@
+-- The packets of a capture that is read can be written.
+use Rattle.std.proofs.Common.{◌≡◌, ℕ, ◌<◌, List, [], ◌∷◌, slice_index, Result, Ok, Err, IfOk}
+use Rattle.std.specs.List.{AllByRecursion}
+use Rattle.ng_machine.specs.Words.{Every}
+use Rattle.ng_pcap.specs.declared.capture.Capture.{Capture}
+use Rattle.ng_pcap.specs.declared.fault.CaptureFault.{CaptureFault}
+use Rattle.ng_pcap.specs.Reading.{capture_of, IsAnswer}
+use Rattle.ng_pcap.specs.Writing.{IsWritable}
+use Rattle.ng_pcap.proofs.Kept.{kept_good}
+
+every_from : {A : Type 0} (P : A → Type 0) (xs : List A) → AllByRecursion P xs → Every P xs
+every_from P [] all = tt
+every_from P (x ∷ xs) all = (all.0, every_from P xs all.1)
+
+pub kept_writable : (bytes : List ℕ) (capture : Capture) → ((i : ℕ) → slice_index bytes i < 256) → capture_of bytes ≡ Ok capture
+    → Every IsWritable capture.kept
+kept_writable bytes capture fits h = every_from IsWritable capture.kept (kept_good bytes capture fits h)
+
+pub answer_writable : (bytes : List ℕ) (answer : Result Capture CaptureFault) → ((i : ℕ) → slice_index bytes i < 256) → IsAnswer bytes answer
+    → IfOk answer (λ capture. Every IsWritable capture.kept)
+answer_writable bytes (Ok capture) fits is = kept_writable bytes capture fits is
+answer_writable bytes (Err why) fits is = tt

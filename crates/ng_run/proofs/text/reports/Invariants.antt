@@ -1,0 +1,8 @@
+use Rattle.std.proofs.Common.{◌≡◌, take}
+use Rattle.ngctl_text.specs.Text.{reports}
+use Rattle.ng_run.specs.Writes.{shown_by}
+use Rattle.ng_run.proofs.text.reports.Given as goal
+
+abbrev pub invariant-loop-i : goal.invariant-loop-i
+invariant-loop-i g l =
+    l.made.items ≡ reports (shown_by (take l.i l.ports) (take l.i l.cuts)) (g.M.Machine.world l.machine).ports

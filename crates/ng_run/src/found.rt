@@ -1,0 +1,20 @@
+// What a call has read.
+use ng_machine::Command;
+use ng_pcap::Capture;
+use ngctl_script::Script;
+
+/// A script, as it is fed and as it is printed.
+#[derive(Drop)]
+pub(crate) struct ReadScript {
+    /// The commands with their times.
+    pub script: Script,
+    /// The commands alone, in order.
+    pub commands: Vec<Command>,
+}
+
+/// A script, and a capture for each port, in order. A port that receives nothing has one without packets.
+#[derive(Drop)]
+pub(crate) struct ReadIn {
+    pub script: ReadScript,
+    pub captures: Vec<Capture>,
+}

@@ -1,5 +1,0 @@
-// Whole runs over files and sinks in memory, as tables, and one over the real ones.
-mod faults;
-mod forms;
-mod over;
-mod runs;

@@ -1,0 +1,105 @@
+// The text of a run.
+ghost use Rattle.std.specs.Prelude.{◌≡◌, ◌≤◌, List, length, map, IfOk};
+ghost use Rattle.std.specs.List.{list_any};
+ghost use Rattle.ng_machine.specs.declared.told.Told.{Told};
+ghost use Rattle.ng_pcap.specs.declared.capture.Capture.{Capture};
+ghost use Rattle.ngctl_print.specs.Prints.{Prints};
+ghost use Rattle.ngctl_text.specs.Text.{world_text, reports};
+ghost use Rattle.ngctl_text.specs.Told.{ArePrintable};
+ghost use Rattle.ng_run.specs.Writes.{is_stop, is_error, shown_by};
+
+use crate::Machine;
+use ng_base::{Event, NoMemory};
+use ng_machine::{Command, Told};
+use ng_outside::Sink;
+use ng_words::PortWord;
+use ngctl_print::PrintStop;
+use ngctl_text::{PortReport, Summary, print_text};
+use std::alloc::Global;
+
+fn is_stop(event: &Event) -> bool
+    ensures { result ≡ is_stop event.now }
+{
+    match event {
+        Event::Stop => true,
+        _ => false,
+    }
+}
+
+/// Whether a run stopped at its limit.
+pub(crate) fn is_stopped(journal: &[Event]) -> bool
+    ensures { result ≡ list_any is_stop journal.now }
+{
+    journal.iter().any(|event| is_stop(event))
+}
+
+fn is_error(told: &Told) -> bool
+    ensures { result ≡ is_error told.now }
+{
+    match told {
+        Told::Refused { errno, .. } => errno.0 != 0,
+        _ => false,
+    }
+}
+
+/// Whether an errno was told that is not 0.
+pub(crate) fn has_error(told: &[Told]) -> bool
+    ensures { result ≡ list_any is_error told.now }
+{
+    told.iter().any(|entry| is_error(entry))
+}
+
+// The lines of the ports, each with the place where its capture was cut.
+fn reports<M: Machine>(
+    alloc: Global,
+    machine: &M,
+    ports: &[PortWord],
+    cuts: &[Option<u64>],
+) -> Result<Vec<PortReport>, NoMemory>
+    requires cuts { length ports.now ≡ length cuts.now }
+    requires few { length ports.now ≤ 64 }
+    requires there { length ports.now ≤ length (M.world machine.now).ports }
+    ensures { IfOk result (λ made. made.items ≡ reports (shown_by ports.now cuts.now) (M.world machine.now).ports) }
+{
+    let mut made = Vec::new(alloc);
+    for i in 0..ports.len() {
+        made.push(PortReport {
+            name: ports[i].name,
+            totals: machine.port(i as u32),
+            cut: cuts[i],
+        })?;
+    }
+    Ok(made)
+}
+
+/// Puts the text of a run, whose inputs were so many.
+///
+/// # Errors
+/// `Fault` where the sink failed, `NoMemory` where memory ran out. A prefix of the text was put then.
+pub(crate) fn print_run<M: Machine, O: Sink>(
+    alloc: Global,
+    machine: &M,
+    commands: &[Command],
+    ports: &[PortWord],
+    cuts: &[Option<u64>],
+    of: u64,
+    out: &mut O,
+) -> Result<(), PrintStop>
+    requires printable { ArePrintable commands.now (M.world machine.now).told }
+    requires cuts { length ports.now ≡ length cuts.now }
+    requires few { length ports.now ≤ 64 }
+    requires there { length ports.now ≤ length (M.world machine.now).ports }
+    ensures { Prints (O.contents out.old) (O.contents out.new) (O.faults out.old) (O.faults out.new) result
+        (world_text commands.now (shown_by ports.now cuts.now) of (M.world machine.now) (list_any is_stop (M.events machine.now))) }
+{
+    let Ok(lines) = reports(alloc, machine, ports, cuts) else {
+        return Err(PrintStop::NoMemory);
+    };
+    let summary = Summary {
+        totals: machine.totals(),
+        fed: machine.fed(),
+        of,
+        stopped: is_stopped(machine.journal()),
+    };
+    print_text(alloc, commands, machine.told(), &summary, &lines, out)
+}

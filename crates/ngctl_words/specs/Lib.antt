@@ -1,4 +1,0 @@
-pub mod Line
-pub mod Form
-pub mod Script
-pub mod Reading
