@@ -70,6 +70,13 @@ const LEARNS: &[Given] = &[
     Given::Packet(1, &[2, 0, 0, 0, 0, 10, 2, 0, 0, 0, 0, 11, 8, 0]),
 ];
 
+const FORGETS: &[Given] = &[
+    Given::Line("mkpeer em0: bridge lower link0"),
+    Given::Line("connect em0:lower em1: link1 lower"),
+    Given::Packet(0, &[2, 0, 0, 0, 0, 11, 2, 0, 0, 0, 0, 10, 8, 0]),
+    Given::Line("rmhook em0:lower link0"),
+];
+
 /// The inputs of four of the examples, each with its number of ports.
 pub(crate) const GIVEN: [(usize, &[Given]); 4] = [(0, ROUND), (1, CUT), (1, GOES), (0, COMES_LATE)];
 
@@ -83,7 +90,7 @@ struct Example {
     totals: Totals,
 }
 
-const EXAMPLES: [Example; 6] = [
+const EXAMPLES: [Example; 7] = [
     Example {
         name: "a packet runs up to a hook that is not joined yet",
         ports: 1,
@@ -232,6 +239,31 @@ const EXAMPLES: [Example; 6] = [
             spool: 0,
             nodes: 4,
             hooks: 4,
+        },
+    },
+    Example {
+        name: "a host is learned and forgotten with its link",
+        ports: 2,
+        seats: 1,
+        given: FORGETS,
+        moves: &[
+            FEED, TAKE_0, APPLY_0, FEED, TAKE_0, APPLY_0, TAKE_0, APPLY_0, TAKE_0, APPLY_0, FEED,
+            TAKE_0, APPLY_0, TAKE_0, APPLY_0, FEED, TAKE_0, APPLY_0, TAKE_0, APPLY_0, TAKE_0,
+            APPLY_0, TAKE_0, APPLY_0,
+        ],
+        skipped: &[],
+        totals: Totals {
+            applied: 10,
+            refused: 0,
+            node_gone: 0,
+            hook_gone: 0,
+            budget: 0,
+            no_peer: 0,
+            peer_gone: 0,
+            full: 0,
+            spool: 0,
+            nodes: 4,
+            hooks: 2,
         },
     },
 ];
