@@ -8,8 +8,6 @@ mod names;
 mod places;
 mod plans;
 mod stock;
-#[cfg(test)]
-mod tests;
 
 pub use entry::Entry;
 pub use graph::{Graph, MakeFault};
