@@ -14,8 +14,6 @@ mod lost;
 mod outcome;
 mod place;
 mod plan;
-#[cfg(test)]
-mod tests;
 mod told;
 mod totals;
 

@@ -4,8 +4,6 @@
 mod counters;
 mod hook_list;
 mod node;
-#[cfg(test)]
-mod tests;
 
 pub use counters::absorb_rows;
 pub use hook_list::HookList;

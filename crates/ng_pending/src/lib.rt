@@ -2,7 +2,5 @@
 #![tactic(auto)]
 
 mod pending;
-#[cfg(test)]
-mod tests;
 
 pub use pending::Pending;

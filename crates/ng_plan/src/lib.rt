@@ -18,8 +18,6 @@ mod removal;
 mod socket;
 mod split;
 mod tee;
-#[cfg(test)]
-mod tests;
 mod vlan;
 
 pub use evaluation::eval;

@@ -11,8 +11,6 @@ mod queue;
 mod queues;
 mod ready;
 mod scan;
-#[cfg(test)]
-mod tests;
 
 pub use entry::{Entry, Hold, Mark};
 pub use laws::{free_is_takeable, takeable_is_free};

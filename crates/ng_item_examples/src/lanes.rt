@@ -1,6 +1,6 @@
 // Tables of modes and lanes.
-use crate::{Body, Door, Exit, Lane};
 use ng_base::{Bytes, Errno, Kind, LinkId, Name, NodeId, Packet};
+use ng_machine::{Body, Door, Exit, Lane};
 use ng_message::{GENERIC_COOKIE, Header, Msg};
 use std::alloc::Global;
 use std::test::Fail;

@@ -1,6 +1,6 @@
 // The calls that take memory.
-use crate::Pending;
 use ng_base::NodeId;
+use ng_pending::Pending;
 use std::test::Fail;
 
 /// Where there is memory, queues are made and widened.

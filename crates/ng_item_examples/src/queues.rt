@@ -4,9 +4,9 @@ ghost use Rattle.ng_queue.specs.Queue.{IsBelow};
 ghost use Rattle.ng_queue.specs.Queues.{list_at};
 ghost use Rattle.ng_queue.specs.declared.entry.Entry.TheVariants.{Waiting};
 
-use crate::{Hold, NodeQueue, Queues};
 use ng_base::{ItemId, LinkId, Name, NodeId, Packet, Stamp};
 use ng_machine::{Body, Door, Item};
+use ng_queue::{Hold, NodeQueue, Queues};
 use std::alloc::Global;
 use std::test::Fail;
 

@@ -2,12 +2,12 @@
 ghost use Rattle.std.specs.Prelude.{◌≡◌, IfOk};
 ghost use Rattle.ng_plan.specs.Way.{IsWorkable};
 
-use crate::{
+use ng_base::{Kind, Name, Names, Packet, Sequence};
+use ng_bpf_vm::{Insn, Program, validate};
+use ng_plan::{
     BpfWay, BridgeConfig, BridgeHost, BridgeLink, Door, EtfWay, Outcome, PatchOp, Plan, VlanWay,
     Way, eval, without,
 };
-use ng_base::{Kind, Name, Names, Packet, Sequence};
-use ng_bpf_vm::{Insn, Program, validate};
 use std::alloc::Global;
 use std::sync::Arc;
 use std::test::Fail;
