@@ -6,7 +6,5 @@ mod filter;
 mod filters;
 mod messages;
 mod node;
-#[cfg(test)]
-mod tests;
 
 pub use node::{BpfNode, blank_bpf};

@@ -10,7 +10,5 @@ mod links;
 mod messages;
 mod node;
 mod standing;
-#[cfg(test)]
-mod tests;
 
 pub use node::{BridgeNode, blank_bridge};

@@ -4,8 +4,6 @@
 mod ether;
 mod settings;
 mod socket;
-#[cfg(test)]
-mod tests;
 
 pub use ether::{EtherNode, blank_ether};
 pub use socket::{SocketNode, blank_socket};

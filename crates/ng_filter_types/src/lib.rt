@@ -8,8 +8,6 @@ mod etf;
 mod filters;
 mod macset;
 mod matchhook;
-#[cfg(test)]
-mod tests;
 
 pub use etf::{EtfNode, blank_etf};
 pub use macset::{MacsetNode, blank_macset};

@@ -6,7 +6,5 @@ mod messages;
 mod node;
 mod one2many;
 mod rows;
-#[cfg(test)]
-mod tests;
 
 pub use node::{One2manyNode, blank_one2many};

@@ -3,7 +3,5 @@
 
 mod node;
 mod operations;
-#[cfg(test)]
-mod tests;
 
 pub use node::{PatchNode, blank_patch};

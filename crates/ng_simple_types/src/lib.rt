@@ -5,8 +5,6 @@ mod echo;
 mod hole;
 mod hub;
 mod split;
-#[cfg(test)]
-mod tests;
 
 pub use echo::{EchoNode, blank_echo};
 pub use hole::{HoleNode, blank_hole};

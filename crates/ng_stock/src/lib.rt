@@ -4,8 +4,6 @@
 mod any_node;
 mod blanks;
 mod laws;
-#[cfg(test)]
-mod tests;
 
 pub use any_node::AnyNode;
 pub use blanks::stock;

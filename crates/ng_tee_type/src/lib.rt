@@ -3,7 +3,5 @@
 
 mod stats;
 mod tee;
-#[cfg(test)]
-mod tests;
 
 pub use tee::{TeeNode, blank_tee};

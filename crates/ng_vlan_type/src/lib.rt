@@ -4,7 +4,5 @@
 mod filters;
 mod messages;
 mod node;
-#[cfg(test)]
-mod tests;
 
 pub use node::{VlanNode, blank_vlan};

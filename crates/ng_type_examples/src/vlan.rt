@@ -3,13 +3,17 @@ ghost use Rattle.std.specs.Prelude.{◌≡◌, false, true, IfOk, OnOk};
 ghost use Rattle.ng_base.specs.Names.{has_name};
 ghost use Rattle.ng_message.specs.Numbers.{is_reader_number};
 
-use crate::{VlanNode, blank_vlan};
-use ng_base::{Bytes, Errno, Name, NodeId, Packet};
+use crate::messages::message;
+use ng_base::{Errno, Name, Packet};
 use ng_machine::{Body, Door};
-use ng_message::{Header, Msg, VERSION, put_name, put_u16};
+use ng_message::{put_name, put_u16};
 use ng_node::Node;
+use ng_vlan_type::{VlanNode, blank_vlan};
 use std::alloc::Global;
 use std::test::Fail;
+
+/// The cookie of the type's messages.
+const COOKIE: u32 = 0x4e47_0008;
 
 /// The number of addfilter.
 const ADD_FILTER: u32 = 1;
@@ -22,28 +26,6 @@ const GET_TABLE: u32 = 0x3000_0003;
 
 /// The number of settagtype.
 const SET_TAG_TYPE: u32 = 4;
-
-// A message to a vlan node, of that number and arguments.
-fn message(alloc: Global, number: u32, args: &[u8]) -> Result<Msg, Fail>
-    ensures cookie { IfOk result (λ msg. msg.header.typecookie ≡ 0x4e470008) }
-    ensures number { IfOk result (λ msg. msg.header.cmd ≡ number) }
-{
-    Ok(Msg {
-        from: NodeId(1),
-        header: Header {
-            version: VERSION,
-            spare: 0,
-            spare2: 0,
-            arglen: 0,
-            cmd: number,
-            flags: 0,
-            token: 1,
-            typecookie: 0x4e47_0008,
-            cmdstr: [0; 32],
-        },
-        args: Bytes(Vec::from_slice(alloc, args)?),
-    })
-}
 
 // The arguments of addfilter.
 fn filter(alloc: Global, hook: &Name, vlan: u16, pcp: u8, cfi: u8) -> Result<Vec<u8>, Fail> {
@@ -60,13 +42,13 @@ fn tell(node: &mut VlanNode, alloc: Global, number: u32, args: &[u8]) -> Result<
     requires { is_reader_number number ≡ false }
     ensures { OnOk result (node.new.hooks ≡ node.old.hooks) }
 {
-    let body = Body::Msg(message(alloc, number, args)?);
+    let body = Body::Msg(message(alloc, COOKIE, number, args)?);
     Ok(node.write(alloc, &body)?.errno)
 }
 
 // What gettable is answered.
 fn table(node: &VlanNode, alloc: Global) -> Result<Vec<u8>, Fail> {
-    let outcome = node.answer(alloc, &message(alloc, GET_TABLE, &[])?)?;
+    let outcome = node.answer(alloc, &message(alloc, COOKIE, GET_TABLE, &[])?)?;
     Ok(outcome.answer.map_or(Vec::new(alloc), |bytes| bytes.0))
 }
 

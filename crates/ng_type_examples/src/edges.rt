@@ -1,35 +1,16 @@
 // Packets at the edges of a graph, and the messages of an ether.
 ghost use Rattle.std.specs.Prelude.{◌≡◌, ◌∷◌, [], None, IfOk};
 
-use crate::{blank_ether, blank_socket};
-use ng_base::{Bytes, Errno, Name, NodeId, Packet};
+use crate::messages::message;
+use ng_base::{Errno, Name, Packet};
+use ng_edge_types::{blank_ether, blank_socket};
 use ng_machine::{Body, Door, Exit};
-use ng_message::{Header, Msg, VERSION};
 use ng_node::Node;
 use std::alloc::Global;
 use std::test::Fail;
 
-// A message to an ether, of that number and arguments.
-fn message(alloc: Global, number: u32, args: &[u8]) -> Result<Msg, Fail>
-    ensures cookie { IfOk result (λ msg. msg.header.typecookie ≡ 0x4e47000b) }
-    ensures number { IfOk result (λ msg. msg.header.cmd ≡ number) }
-{
-    Ok(Msg {
-        from: NodeId(1),
-        header: Header {
-            version: VERSION,
-            spare: 0,
-            spare2: 0,
-            arglen: 0,
-            cmd: number,
-            flags: 0,
-            token: 1,
-            typecookie: 0x4e47_000b,
-            cmdstr: [0; 32],
-        },
-        args: Bytes(Vec::from_slice(alloc, args)?),
-    })
-}
+/// The cookie of the type's messages.
+const COOKIE: u32 = 0x4e47_000b;
 
 // A packet that comes by a door.
 fn frame(alloc: Global, door: Door) -> Result<Body, Fail>
@@ -71,11 +52,11 @@ fn an_ether_passes(rt: HostRuntime) -> Result<(), Fail> {
 fn an_ether_keeps_a_number(rt: HostRuntime) -> Result<(), Fail> {
     let alloc = rt.alloc();
     let mut node = blank_ether(alloc)?;
-    let set = node.write(alloc, &Body::Msg(message(alloc, 1, &[1, 0, 0, 0])?))?;
+    let set = node.write(alloc, &Body::Msg(message(alloc, COOKIE, 1, &[1, 0, 0, 0])?))?;
     assert_eq!(rt; set.errno, Errno::NONE);
-    let short = node.write(alloc, &Body::Msg(message(alloc, 3, &[1, 0])?))?;
+    let short = node.write(alloc, &Body::Msg(message(alloc, COOKIE, 3, &[1, 0])?))?;
     assert_eq!(rt; short.errno, Errno::INVAL);
-    let get = node.answer(alloc, &message(alloc, 0x3000_0002, &[])?)?;
+    let get = node.answer(alloc, &message(alloc, COOKIE, 0x3000_0002, &[])?)?;
     let told = get.answer.map_or(Vec::new(alloc), |bytes| bytes.0);
     assert_eq!(rt; told.as_slice(), [1, 0, 0, 0].as_slice());
     Ok(())

@@ -4,10 +4,11 @@ ghost use Rattle.ng_base.specs.Names.{has_name};
 ghost use Rattle.ng_machine.specs.Names.{all_hook, downstream, known_hook, other_hook};
 ghost use Rattle.ng_message.specs.Numbers.{is_reader_number};
 
-use crate::{EtfNode, MacsetNode, blank_etf, blank_macset};
-use ng_base::{Bytes, Errno, Name, NodeId, Packet};
+use crate::messages::{has_answer, message};
+use ng_base::{Errno, Name, Packet};
+use ng_filter_types::{EtfNode, MacsetNode, blank_etf, blank_macset};
 use ng_machine::{Body, Door, Outcome};
-use ng_message::{Header, Msg, VERSION, put_name, put_u16};
+use ng_message::{put_name, put_u16};
 use ng_node::Node;
 use ng_plan::{Plan, all_hook, downstream, eval, known_hook, other_hook};
 use std::alloc::Global;
@@ -48,28 +49,6 @@ const FROM_10: &[u8; 14] = &[1, 2, 3, 4, 5, 6, 2, 0, 0, 0, 0, 10, 8, 0];
 
 /// A frame from 02:00:00:00:00:0b.
 const FROM_11: &[u8; 14] = &[1, 2, 3, 4, 5, 6, 2, 0, 0, 0, 0, 11, 8, 0];
-
-// A message of that cookie, number and arguments.
-fn message(alloc: Global, cookie: u32, number: u32, args: &[u8]) -> Result<Msg, Fail>
-    ensures cookie { IfOk result (λ msg. msg.header.typecookie ≡ cookie) }
-    ensures number { IfOk result (λ msg. msg.header.cmd ≡ number) }
-{
-    Ok(Msg {
-        from: NodeId(1),
-        header: Header {
-            version: VERSION,
-            spare: 0,
-            spare2: 0,
-            arglen: 0,
-            cmd: number,
-            flags: 0,
-            token: 1,
-            typecookie: cookie,
-            cmdstr: [0; 32],
-        },
-        args: Bytes(Vec::from_slice(alloc, args)?),
-    })
-}
 
 // What comes of a message to an etf that writes.
 fn tell_etf(node: &mut EtfNode, alloc: Global, number: u32, args: &[u8]) -> Result<Outcome, Fail>
@@ -138,14 +117,6 @@ fn send_macset(
         packet: Packet::new(alloc, bytes)?,
     };
     Ok(way_out(&node.write(alloc, &frame)?, bytes))
-}
-
-// Whether these bytes are what is answered.
-fn has_answer(outcome: &Outcome, bytes: &[u8]) -> bool {
-    match &outcome.answer {
-        Some(answer) => answer.0.as_slice() == bytes,
-        None => false,
-    }
 }
 
 // The arguments of setfilter.

@@ -1,8 +1,8 @@
 // There is memory for all the nodes, and a call on one goes to the node of its type.
-use crate::{AnyNode, stock};
 use ng_base::Name;
 use ng_node::Node;
 use ng_simple_types::blank_echo;
+use ng_stock::{AnyNode, stock};
 use std::test::Fail;
 
 #[test]

@@ -3,15 +3,18 @@ ghost use Rattle.std.specs.Prelude.{◌≡◌, false, true, IfOk, OnOk};
 ghost use Rattle.ng_base.specs.Names.{has_name};
 ghost use Rattle.ng_message.specs.Numbers.{is_reader_number};
 
-use crate::{TeeNode, blank_tee};
-use ng_base::{Bytes, Errno, Name, NodeId, Packet};
+use crate::messages::message;
+use ng_base::{Errno, Name, Packet};
 use ng_machine::{Body, Counts, Door};
-use ng_message::{Header, Msg, VERSION};
 use ng_node::Node;
 use ng_plan::{Plan, eval};
+use ng_tee_type::{TeeNode, blank_tee};
 use std::alloc::Global;
 use std::sync::Arc;
 use std::test::Fail;
+
+/// The cookie of the type's messages.
+const COOKIE: u32 = 0x4e47_0004;
 
 /// The number of getstats.
 const GET_STATS: u32 = 0x2000_0001;
@@ -19,35 +22,13 @@ const GET_STATS: u32 = 0x2000_0001;
 /// The number of getclrstats.
 const GET_AND_CLEAR_STATS: u32 = 0x2000_0003;
 
-// A message to a tee, of that number and arguments.
-fn message(alloc: Global, number: u32, args: &[u8]) -> Result<Msg, Fail>
-    ensures cookie { IfOk result (λ msg. msg.header.typecookie ≡ 0x4e470004) }
-    ensures number { IfOk result (λ msg. msg.header.cmd ≡ number) }
-{
-    Ok(Msg {
-        from: NodeId(1),
-        header: Header {
-            version: VERSION,
-            spare: 0,
-            spare2: 0,
-            arglen: 0,
-            cmd: number,
-            flags: 0,
-            token: 1,
-            typecookie: 0x4e47_0004,
-            cmdstr: [0; 32],
-        },
-        args: Bytes(Vec::from_slice(alloc, args)?),
-    })
-}
-
 // The counters that a message is answered: inOctets, inFrames, outOctets and outFrames of right, left, right2left and
 // left2right, each in 8 bytes, of which the first is given, since each counter here is below 256.
 fn counters(node: &mut TeeNode, alloc: Global, number: u32) -> Result<Vec<u8>, Fail>
     requires { is_reader_number number ≡ false }
     ensures { OnOk result (node.new.hooks ≡ node.old.hooks) }
 {
-    let outcome = node.write(alloc, &Body::Msg(message(alloc, number, &[])?))?;
+    let outcome = node.write(alloc, &Body::Msg(message(alloc, COOKIE, number, &[])?))?;
     let told = outcome.answer.map_or(Vec::new(alloc), |bytes| bytes.0);
     let mut counters = Vec::new(alloc);
     for counter in told.chunks(8) {

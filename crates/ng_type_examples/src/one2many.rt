@@ -6,14 +6,17 @@ ghost use Rattle.ng_machine.specs.One2many.{many};
 ghost use Rattle.ng_message.specs.Numbers.{is_reader_number};
 ghost use Rattle.ng_one2many_type.specs.Node.{names_of};
 
-use crate::{One2manyNode, blank_one2many};
-use ng_base::{Bytes, Errno, Name, NodeId, Packet};
+use crate::messages::{has_answer, message};
+use ng_base::{Errno, Name, Packet};
 use ng_machine::{Body, Door, Outcome};
-use ng_message::{Header, Msg, VERSION};
 use ng_node::Node;
+use ng_one2many_type::{One2manyNode, blank_one2many};
 use ng_plan::{many, one};
 use std::alloc::Global;
 use std::test::Fail;
+
+/// The cookie of the type's messages.
+const COOKIE: u32 = 0x4e47_0006;
 
 const SET_CONFIG: u32 = 1;
 
@@ -36,33 +39,12 @@ fn node_of_two(alloc: Global) -> Result<One2manyNode, Fail>
     Ok(node)
 }
 
-// A message of the type's cookie.
-fn message(alloc: Global, cmd: u32, args: &[u8]) -> Result<Msg, Fail>
-    ensures { IfOk result (λ msg. (msg.header.cmd ≡ cmd) × (msg.header.typecookie ≡ 0x4e470006)) }
-{
-    Ok(Msg {
-        from: NodeId(1),
-        header: Header {
-            version: VERSION,
-            spare: 0,
-            spare2: 0,
-            arglen: 0,
-            cmd,
-            flags: 0,
-            token: 1,
-            typecookie: 0x4e47_0006,
-            cmdstr: [0; 32],
-        },
-        args: Bytes(Vec::from_slice(alloc, args)?),
-    })
-}
-
 // Sends a message that writes.
 fn ask(alloc: Global, node: &mut One2manyNode, cmd: u32, args: &[u8]) -> Result<Outcome, Fail>
     requires { is_reader_number cmd ≡ false }
     ensures { OnOk result (names_of (node.new).rows ≡ names_of (node.old).rows) }
 {
-    Ok(node.write(alloc, &Body::Msg(message(alloc, cmd, args)?))?)
+    Ok(node.write(alloc, &Body::Msg(message(alloc, COOKIE, cmd, args)?))?)
 }
 
 // Sends a packet of two bytes by a hook.
@@ -106,14 +88,6 @@ fn node_of_packets(alloc: Global) -> Result<One2manyNode, Fail> {
     send(alloc, &mut node, &one())?;
     send(alloc, &mut node, &many(1))?;
     Ok(node)
-}
-
-// Whether these bytes are what is answered.
-fn has_answer(outcome: &Outcome, bytes: &[u8]) -> bool {
-    match &outcome.answer {
-        Some(answer) => answer.0.as_slice() == bytes,
-        None => false,
-    }
 }
 
 // A configuration that enables links 0, 1 and 5.
@@ -200,7 +174,7 @@ fn a_configuration_is_told_as_it_was_set(rt: HostRuntime) -> Result<(), Fail> {
     }
     let outcome = ask(alloc, &mut node, SET_CONFIG, &[1; 71])?;
     assert_eq!(rt; outcome.errno, Errno::INVAL);
-    let told = node.answer(alloc, &message(alloc, GET_CONFIG, &[])?)?;
+    let told = node.answer(alloc, &message(alloc, COOKIE, GET_CONFIG, &[])?)?;
     assert_eq!(rt; has_answer(&told, &config(1, 1)), true);
     Ok(())
 }

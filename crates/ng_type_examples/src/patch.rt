@@ -3,13 +3,17 @@ ghost use Rattle.std.specs.Prelude.{◌≡◌, ◌∷◌, [], false, true, IfOk,
 ghost use Rattle.ng_base.specs.Names.{has_name};
 ghost use Rattle.ng_message.specs.Numbers.{is_reader_number};
 
-use crate::{PatchNode, blank_patch};
-use ng_base::{Bytes, Errno, Name, NodeId, Packet};
+use crate::messages::message;
+use ng_base::{Errno, Name, Packet};
 use ng_machine::{Body, Door};
-use ng_message::{Header, Msg, VERSION, put_u16, put_u32, put_u64};
+use ng_message::{put_u16, put_u32, put_u64};
 use ng_node::Node;
+use ng_patch_type::{PatchNode, blank_patch};
 use std::alloc::Global;
 use std::test::Fail;
+
+/// The cookie of the type's messages.
+const COOKIE: u32 = 0x4e47_0009;
 
 /// The number of setconfig.
 const SET_CONFIG: u32 = 1;
@@ -19,28 +23,6 @@ const GET_CONFIG: u32 = 0x3000_0002;
 
 /// An operation: its offset, length, mode and value.
 type Op = (u32, u16, u16, u64);
-
-// A message to a patch node, of that number and arguments.
-fn message(alloc: Global, number: u32, args: &[u8]) -> Result<Msg, Fail>
-    ensures cookie { IfOk result (λ msg. msg.header.typecookie ≡ 0x4e470009) }
-    ensures number { IfOk result (λ msg. msg.header.cmd ≡ number) }
-{
-    Ok(Msg {
-        from: NodeId(1),
-        header: Header {
-            version: VERSION,
-            spare: 0,
-            spare2: 0,
-            arglen: 0,
-            cmd: number,
-            flags: 0,
-            token: 1,
-            typecookie: 0x4e47_0009,
-            cmdstr: [0; 32],
-        },
-        args: Bytes(Vec::from_slice(alloc, args)?),
-    })
-}
 
 // The arguments of setconfig with that count, those flags and these operations.
 fn config(alloc: Global, count: u32, flags: u32, ops: &[Op]) -> Result<Vec<u8>, Fail> {
@@ -60,13 +42,13 @@ fn config(alloc: Global, count: u32, flags: u32, ops: &[Op]) -> Result<Vec<u8>, 
 fn set(node: &mut PatchNode, alloc: Global, args: &[u8]) -> Result<Errno, Fail>
     ensures { OnOk result (node.new.hooks ≡ node.old.hooks) }
 {
-    let body = Body::Msg(message(alloc, SET_CONFIG, args)?);
+    let body = Body::Msg(message(alloc, COOKIE, SET_CONFIG, args)?);
     Ok(node.write(alloc, &body)?.errno)
 }
 
 // What getconfig is answered.
 fn told(node: &PatchNode, alloc: Global) -> Result<Vec<u8>, Fail> {
-    let outcome = node.answer(alloc, &message(alloc, GET_CONFIG, &[])?)?;
+    let outcome = node.answer(alloc, &message(alloc, COOKIE, GET_CONFIG, &[])?)?;
     Ok(outcome.answer.map_or(Vec::new(alloc), |bytes| bytes.0))
 }
 

@@ -4,17 +4,19 @@ ghost use Rattle.ng_base.specs.Names.{has_name};
 ghost use Rattle.ng_bpf_type.specs.Filters.{hooks_of};
 ghost use Rattle.ng_message.specs.Numbers.{is_reader_number};
 
-use crate::filters::Filters;
-use crate::messages::obey;
-use crate::{BpfNode, blank_bpf};
-use ng_base::{Bytes, Errno, Name, NodeId, Packet};
+use crate::messages::{has_answer, message};
+use ng_base::{Errno, Name, Packet};
+use ng_bpf_type::{BpfNode, blank_bpf};
 use ng_bpf_vm::Insn;
 use ng_machine::{Body, Door, Outcome};
-use ng_message::{Header, Msg, VERSION, put_name, put_u16, put_u32, put_u64};
+use ng_message::{is_read_only, put_name, put_u16, put_u32, put_u64};
 use ng_node::Node;
 use ng_plan::{Plan, eval};
 use std::alloc::Global;
 use std::test::Fail;
+
+/// The cookie of the type's messages.
+const COOKIE: u32 = 0x4e47_000a;
 
 /// The number of setprogram.
 const SET_PROGRAM: u32 = 1;
@@ -63,28 +65,6 @@ const RETURN_ONE: Insn = Insn {
     k: 1,
 };
 
-// A message to a bpf node, of that number and arguments.
-fn message(alloc: Global, number: u32, args: &[u8]) -> Result<Msg, Fail>
-    ensures cookie { IfOk result (λ msg. msg.header.typecookie ≡ 0x4e47000a) }
-    ensures number { IfOk result (λ msg. msg.header.cmd ≡ number) }
-{
-    Ok(Msg {
-        from: NodeId(1),
-        header: Header {
-            version: VERSION,
-            spare: 0,
-            spare2: 0,
-            arglen: 0,
-            cmd: number,
-            flags: 0,
-            token: 1,
-            typecookie: 0x4e47_000a,
-            cmdstr: [0; 32],
-        },
-        args: Bytes(Vec::from_slice(alloc, args)?),
-    })
-}
-
 // The arguments of setprogram: a hook, the two targets, a count, and instructions.
 fn program(alloc: Global, names: [&[u8]; 3], count: u32, insns: &[Insn]) -> Result<Vec<u8>, Fail> {
     let mut args = Vec::new(alloc);
@@ -113,7 +93,17 @@ fn tell(node: &mut BpfNode, alloc: Global, number: u32, args: &[u8]) -> Result<O
     requires { is_reader_number number ≡ false }
     ensures { OnOk result (hooks_of node.new ≡ hooks_of node.old) }
 {
-    Ok(node.write(alloc, &Body::Msg(message(alloc, number, args)?))?)
+    Ok(node.write(alloc, &Body::Msg(message(alloc, COOKIE, number, args)?))?)
+}
+
+// What a message of either sort comes to.
+fn told(node: &mut BpfNode, alloc: Global, number: u32, args: &[u8]) -> Result<Outcome, Fail>
+    ensures { OnOk result (hooks_of node.new ≡ hooks_of node.old) }
+{
+    if is_read_only(number) {
+        return Ok(node.answer(alloc, &message(alloc, COOKIE, number, args)?)?);
+    }
+    tell(node, alloc, number, args)
 }
 
 // Whether these are the counters that are answered, each in 8 bytes: recvFrames, recvOctets, recvMatchFrames,
@@ -124,14 +114,6 @@ fn has_counters(alloc: Global, outcome: &Outcome, counters: [u64; 6]) -> Result<
         put_u64(&mut bytes, counter)?;
     }
     Ok(has_answer(outcome, &bytes))
-}
-
-// Whether these bytes are what is answered.
-fn has_answer(outcome: &Outcome, bytes: &[u8]) -> bool {
-    match &outcome.answer {
-        Some(answer) => answer.0.as_slice() == bytes,
-        None => false,
-    }
 }
 
 // The hook that these bytes go out of, if nothing else goes out.
@@ -227,18 +209,17 @@ fn a_program_is_told(rt: HostRuntime) -> Result<(), Fail> {
     let args = program(alloc, [b"x", b"y", b""], 1, &[RETURN_ONE])?;
     tell(&mut node, alloc, SET_PROGRAM, &args)?;
     let hook = field(alloc, &Name::read(b"x")?)?;
-    let told = node.answer(alloc, &message(alloc, GET_PROGRAM, &hook)?)?;
+    let told = node.answer(alloc, &message(alloc, COOKIE, GET_PROGRAM, &hook)?)?;
     assert!(rt; has_answer(&told, &args));
     Ok(())
 }
 
-// Refusals of setprogram at a node with the hook x: of a hook that isn't there before that of the program, here one that
+// Refusals of setprogram at a node with the hooks x, y and z: of a hook that isn't there before that of the program, here one that
 // ends without a return.
 #[test]
 fn programs_are_refused(rt: HostRuntime) -> Result<(), Fail> {
     let alloc = rt.alloc();
-    let mut filters = Filters::new(alloc);
-    filters.add(alloc, &Name::read(b"x")?)?;
+    let mut node = node_of_three(alloc)?;
     let rows: [(&[u8], u32, Insn, Errno); 6] = [
         (b"x", 1, RETURN_ONE, Errno::NONE),
         (b"x", 2, RETURN_ONE, Errno::INVAL),
@@ -249,18 +230,17 @@ fn programs_are_refused(rt: HostRuntime) -> Result<(), Fail> {
     ];
     for (hook, count, insn, errno) in rows {
         let args = program(alloc, [hook, b"", b""], count, &[insn])?;
-        let outcome = obey(alloc, &mut filters, SET_PROGRAM, &args)?;
+        let outcome = tell(&mut node, alloc, SET_PROGRAM, &args)?;
         assert_eq!(rt; outcome.errno, errno);
     }
     Ok(())
 }
 
-// What messages about a hook are answered at a node with the hook x.
+// What messages about a hook are answered at a node with the hooks x, y and z.
 #[test]
 fn messages_are_about_hooks_that_are_there(rt: HostRuntime) -> Result<(), Fail> {
     let alloc = rt.alloc();
-    let mut filters = Filters::new(alloc);
-    filters.add(alloc, &Name::read(b"x")?)?;
+    let mut node = node_of_three(alloc)?;
     let there = field(alloc, &Name::read(b"x")?)?;
     let unknown = field(alloc, &Name::read(b"w")?)?;
     let rows: [(u32, &[u8], Errno); 9] = [
@@ -275,7 +255,7 @@ fn messages_are_about_hooks_that_are_there(rt: HostRuntime) -> Result<(), Fail> 
         (CLEAR_STATS, b"x", Errno::INVAL),
     ];
     for (number, args, errno) in rows {
-        let outcome = obey(alloc, &mut filters, number, args)?;
+        let outcome = told(&mut node, alloc, number, args)?;
         assert_eq!(rt; outcome.errno, errno);
     }
     Ok(())

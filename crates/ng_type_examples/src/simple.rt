@@ -2,14 +2,17 @@
 ghost use Rattle.std.specs.Prelude.{◌≡◌, ◌∷◌, [], true, None, IfOk, OnOk};
 ghost use Rattle.ng_base.specs.Names.{has_name};
 
-use crate::{blank_echo, blank_hole, blank_hub, blank_split};
-use ng_base::{Bytes, Errno, Name, NodeId, Packet};
+use crate::messages::message;
+use ng_base::{Errno, Name, Packet};
 use ng_machine::{Body, Door};
-use ng_message::{Header, Msg, VERSION};
 use ng_node::Node;
 use ng_plan::eval;
+use ng_simple_types::{blank_echo, blank_hole, blank_hub, blank_split};
 use std::alloc::Global;
 use std::test::Fail;
+
+/// The cookie of the type's messages.
+const COOKIE: u32 = 0x4e47_0001;
 
 // A packet that comes by a hook.
 fn frame(alloc: Global, hook: &Name) -> Result<Body, Fail>
@@ -38,28 +41,6 @@ fn sends<N: Node>(node: &mut N, alloc: Global, hook: &Name) -> Result<Vec<Name>,
     Ok(others)
 }
 
-// A message to a hub, of that number and arguments.
-fn message(alloc: Global, number: u32, args: &[u8]) -> Result<Msg, Fail>
-    ensures cookie { IfOk result (λ msg. msg.header.typecookie ≡ 0x4e470001) }
-    ensures number { IfOk result (λ msg. msg.header.cmd ≡ number) }
-{
-    Ok(Msg {
-        from: NodeId(1),
-        header: Header {
-            version: VERSION,
-            spare: 0,
-            spare2: 0,
-            arglen: 0,
-            cmd: number,
-            flags: 0,
-            token: 1,
-            typecookie: 0x4e47_0001,
-            cmdstr: [0; 32],
-        },
-        args: Bytes(Vec::from_slice(alloc, args)?),
-    })
-}
-
 #[test]
 fn a_hub_sends_out_of_the_others(rt: HostRuntime) -> Result<(), Fail> {
     let alloc = rt.alloc();
@@ -78,10 +59,10 @@ fn a_hub_sends_out_of_the_others(rt: HostRuntime) -> Result<(), Fail> {
 fn a_hub_stays_after_setpersistent(rt: HostRuntime) -> Result<(), Fail> {
     let alloc = rt.alloc();
     let mut node = blank_hub(alloc)?;
-    let longer = Body::Msg(message(alloc, 1, &[0])?);
+    let longer = Body::Msg(message(alloc, COOKIE, 1, &[0])?);
     assert_eq!(rt; node.write(alloc, &longer)?.errno, Errno::INVAL);
     assert!(rt; !node.lasting());
-    let right = Body::Msg(message(alloc, 1, &[])?);
+    let right = Body::Msg(message(alloc, COOKIE, 1, &[])?);
     assert_eq!(rt; node.write(alloc, &right)?.errno, Errno::NONE);
     assert!(rt; node.lasting());
     Ok(())
