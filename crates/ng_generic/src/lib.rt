@@ -4,8 +4,6 @@
 
 mod answers;
 mod order;
-#[cfg(test)]
-mod tests;
 
 pub use answers::{MAX_NODES, MAX_TYPES, hook_list, name_list, node_info, type_list};
 pub use order::{Order, PATH_LEN, read_order};

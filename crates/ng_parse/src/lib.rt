@@ -10,8 +10,6 @@ mod laws;
 mod printing;
 mod reading;
 mod strings;
-#[cfg(test)]
-mod tests;
 mod texts;
 mod tokens;
 

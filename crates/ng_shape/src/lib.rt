@@ -9,8 +9,6 @@ mod layout;
 mod members;
 mod shape;
 mod sound;
-#[cfg(test)]
-mod tests;
 mod tree;
 
 pub use decoding::read_bytes;

@@ -8,8 +8,6 @@ mod laws;
 mod macros;
 mod row;
 mod rows;
-#[cfg(test)]
-mod tests;
 
 pub use cookie::cookie_of;
 pub use find::{find_name, find_number};

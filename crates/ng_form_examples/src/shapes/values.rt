@@ -1,6 +1,6 @@
 // Values and their bytes.
 use super::U8;
-use crate::{CountField, Field, Member, Shape, Tree, lay_out, read_bytes};
+use ng_shape::{CountField, Field, Member, Shape, Tree, lay_out, read_bytes};
 use std::test::Fail;
 
 /// A number that comes from no text.

@@ -1,7 +1,7 @@
 // Integers, strings, addresses, and nothing.
 use super::{U8, fail, read};
-use crate::TextFault;
-use crate::TextFault::{Range, Unexpected};
+use ng_parse::TextFault;
+use ng_parse::TextFault::{Range, Unexpected};
 use ng_shape::Shape;
 
 const BYTES: &[(&[u8], &[u8])] = &[

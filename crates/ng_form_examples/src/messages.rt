@@ -1,6 +1,6 @@
 // Messages by their names, as a script has them.
-use crate::{Found, read_message};
 use ng_base::Kind;
+use ng_reading::{Found, read_message};
 use std::test::Fail;
 
 // Why these arguments of setconfig are none, for a one2many.

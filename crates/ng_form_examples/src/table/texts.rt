@@ -1,8 +1,8 @@
 // For each structure of the table a text, its length in bytes, and the text again.
-use crate::{Row, find_name};
 use ng_base::Kind;
 use ng_parse::{to_bytes, to_text};
 use ng_shape::Shape;
+use ng_table::{Row, find_name};
 use std::alloc::Global;
 use std::process::Abort;
 use std::test::Fail;

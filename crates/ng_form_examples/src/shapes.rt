@@ -1,5 +1,5 @@
 // Shapes, values and bytes that were worked out by hand.
-use crate::Shape;
+use ng_shape::Shape;
 
 /// A field.
 macro_rules! field {

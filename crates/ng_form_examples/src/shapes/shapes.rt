@@ -1,6 +1,6 @@
 // What is a shape: a row for each condition.
 use super::U8;
-use crate::{CountField, Field, Shape, is_shape};
+use ng_shape::{CountField, Field, Shape, is_shape};
 
 const PAIR: Shape = Shape::Struct(&[field!("n", U8), field!("m", U8)]);
 

@@ -1,6 +1,6 @@
 // Orders and answers that were put together by hand from the structures of ng_message.h.
-use crate::{Order, hook_list, name_list, node_info, read_order, type_list};
 use ng_base::{Bytes, Errno, Kind, Name, NodeId};
+use ng_generic::{Order, hook_list, name_list, node_info, read_order, type_list};
 use ng_message::{GENERIC_COOKIE, Header, LinkInfo, Msg, NodeInfo, VERSION, generic, put_name};
 use std::alloc::Global;
 use std::test::Fail;

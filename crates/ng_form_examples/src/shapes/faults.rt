@@ -1,6 +1,6 @@
 // Bytes that are too few or too many.
 use super::U8;
-use crate::{BytesFault, CountField, Field, Shape, read_bytes};
+use ng_shape::{BytesFault, CountField, Field, Shape, read_bytes};
 use std::test::Fail;
 
 /// An integer, a string, an address, an integer behind a stretch of padding, a structure that has padding

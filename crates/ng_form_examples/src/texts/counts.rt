@@ -1,7 +1,7 @@
 // Arrays that a field counts.
 use super::{U8, fail, print, read, return_to};
-use crate::TextFault;
-use crate::TextFault::{Range, TooMany, Unexpected};
+use ng_parse::TextFault;
+use ng_parse::TextFault::{Range, TooMany, Unexpected};
 use ng_shape::{CountField, Field, Shape};
 
 macro_rules! counted {

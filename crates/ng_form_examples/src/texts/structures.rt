@@ -1,7 +1,7 @@
 // Structures.
 use super::{MANY_CONFIG, U8, fail, print, read, return_to};
-use crate::TextFault;
-use crate::TextFault::{Range, Twice, Unexpected, UnknownField};
+use ng_parse::TextFault;
+use ng_parse::TextFault::{Range, Twice, Unexpected, UnknownField};
 use ng_shape::{Field, Shape};
 use std::test::Fail;
 

@@ -1,6 +1,6 @@
 // The text of bytes.
 use super::{MANY_CONFIG, U8, print};
-use crate::to_text;
+use ng_parse::to_text;
 use ng_shape::{BytesFault, Field, Shape};
 
 const FOUR: Shape = Shape::Array(4, &U8);

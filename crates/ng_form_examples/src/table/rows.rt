@@ -1,7 +1,7 @@
 // Every row by its name and by its number, with the lengths of its arguments and of its answer.
-use crate::{Row, cookie_of, find_name, find_number};
 use ng_base::Kind;
 use ng_shape::{Tree, lay_out};
+use ng_table::{Row, cookie_of, find_name, find_number};
 use std::alloc::Global;
 use std::process::Abort;
 use std::test::Fail;

@@ -1,7 +1,7 @@
 // Arrays of a length that is fixed.
 use super::{MANY_CONFIG, U8, fail, read, return_to};
-use crate::TextFault;
-use crate::TextFault::{Range, TooMany, Twice, Unexpected, UnknownField};
+use ng_parse::TextFault;
+use ng_parse::TextFault::{Range, TooMany, Twice, Unexpected, UnknownField};
 use ng_shape::{Field, Shape};
 use std::test::Fail;
 

@@ -16,7 +16,7 @@ mod leaves;
 mod printing;
 mod structures;
 
-use crate::{TextFault, to_bytes, to_text};
+use ng_parse::{TextFault, to_bytes, to_text};
 use ng_shape::{Field, Shape};
 use std::alloc::Global;
 use std::process::Abort;
