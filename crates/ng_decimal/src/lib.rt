@@ -3,8 +3,6 @@
 
 mod decimal;
 mod laws;
-#[cfg(test)]
-mod tests;
 
 pub use decimal::read_decimal;
 pub use laws::{digits_are_read, read_are_digits};

@@ -7,8 +7,6 @@ mod examples;
 mod list;
 mod merge;
 mod queue;
-#[cfg(test)]
-mod tests;
 
 pub use arrival::Arrival;
 pub use examples::{

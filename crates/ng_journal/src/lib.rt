@@ -5,8 +5,6 @@ mod fault;
 mod laws;
 mod reading;
 mod split;
-#[cfg(test)]
-mod tests;
 mod writing;
 
 pub use fault::JournalFault;

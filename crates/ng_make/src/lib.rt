@@ -2,7 +2,5 @@
 #![tactic(auto)]
 
 mod made;
-#[cfg(test)]
-mod tests;
 
 pub use made::{Made, make};

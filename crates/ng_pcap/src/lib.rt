@@ -7,8 +7,6 @@ mod fault;
 mod format;
 mod laws;
 mod reader;
-#[cfg(test)]
-mod tests;
 mod writer;
 
 pub use capture::Capture;

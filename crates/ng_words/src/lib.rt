@@ -11,8 +11,6 @@ mod port;
 mod ports;
 mod replay;
 mod run;
-#[cfg(test)]
-mod tests;
 mod together;
 mod words;
 

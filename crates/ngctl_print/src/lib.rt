@@ -7,8 +7,6 @@ mod line;
 mod port;
 mod stop;
 mod summary;
-#[cfg(test)]
-mod tests;
 mod told;
 
 pub use line::put_line;

@@ -11,8 +11,6 @@ mod read;
 mod reading;
 mod refusal;
 mod script;
-#[cfg(test)]
-mod tests;
 mod verb;
 mod when;
 mod words;

@@ -8,8 +8,6 @@ mod help;
 mod lines;
 mod printable;
 mod report;
-#[cfg(test)]
-mod tests;
 mod text;
 mod told;
 

@@ -1,6 +1,6 @@
 // Journals, as they are written and as they are read.
-use crate::{JournalFault, put_journal, read_journal};
 use ng_base::{Event, ItemId};
+use ng_journal::{JournalFault, put_journal, read_journal};
 use std::test::Fail;
 
 const JOURNAL: [Event; 9] = [

@@ -2,9 +2,9 @@
 mod commands;
 mod scripts;
 
-use crate::{When, read_script};
 use ng_base::Bytes;
 use ng_machine::What;
+use ngctl_script::{When, read_script};
 use std::alloc::{AllocError, Global};
 use std::test::Fail;
 

@@ -1,5 +1,5 @@
 // Words of command lines, as they are typed.
-use crate::{Source, read_forecast_words, read_replay_words, read_words};
+use ng_words::{Source, read_forecast_words, read_replay_words, read_words};
 use std::alloc::Global;
 use std::test::Fail;
 

@@ -1,5 +1,5 @@
 // The workload of a few packets.
-use crate::make;
+use ng_make::make;
 use std::test::Fail;
 
 #[test]

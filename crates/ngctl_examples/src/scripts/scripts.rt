@@ -1,6 +1,6 @@
 // Lines, marks, the end of a script, and its faults.
 use super::asked;
-use crate::{Script, ScriptFault, When, read_script};
+use ngctl_script::{Script, ScriptFault, When, read_script};
 use std::alloc::{AllocError, Global};
 use std::test::Fail;
 

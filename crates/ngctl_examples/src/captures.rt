@@ -1,6 +1,6 @@
 // Files that tcpdump and editcap wrote, times by hand, and what faults print.
-use crate::{CaptureFault, read_capture, write_head, write_packet};
 use ng_base::{Packet, Stamp};
+use ng_pcap::{CaptureFault, read_capture, write_head, write_packet};
 use std::alloc::{AllocError, Global};
 use std::process::Abort;
 use std::test::Fail;

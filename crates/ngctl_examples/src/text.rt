@@ -1,9 +1,9 @@
 // Entries and texts of runs as ngctl(8) prints them, each line put by itself, and a capture as a file.
-use crate::{PortReport, Summary, capture_text, is_printable, print_text, print_told};
 use ng_base::{Bytes, Name, NodeId, Packet, Stamp};
 use ng_machine::{Command, PortTotals, Told, Totals, What};
 use ng_message::{GENERIC_COOKIE, put_name, put_u16, put_u32};
 use ng_outside::MemSink;
+use ngctl_text::{PortReport, Summary, capture_text, is_printable, print_text, print_told};
 use std::alloc::Global;
 use std::process::Abort;
 use std::test::Fail;

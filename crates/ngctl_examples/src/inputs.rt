@@ -2,8 +2,8 @@
 ghost use Rattle.std.specs.Prelude.{◌≡◌, All, IfOk, length};
 ghost use Rattle.ng_feed.specs.Early.{IsEarly};
 
-use crate::inputs;
 use ng_base::{NoMemory, Packet, Sequence, Stamp};
+use ng_feed::inputs;
 use ng_machine::Input;
 use ng_pcap::{Capture, NANOS_PER_SECOND};
 use ngctl_script::read_script;

@@ -1,6 +1,6 @@
 // What the line of each command asks for.
 use super::asked;
-use crate::{Refusal, Verb};
+use ngctl_script::{Refusal, Verb};
 use std::test::Fail;
 
 #[test]
@@ -201,5 +201,36 @@ fn a_command_is_named_by_a_prefix_of_its_own(rt: HostRuntime) {
         ("showshow", Err(Refusal::Unknown)),
     ] {
         assert_eq!(rt; Verb::named(word.as_bytes()), want, "{word:?}");
+    }
+}
+
+// Each prefix of each command, by how many letters tell the command from all others.
+#[test]
+fn shorter_prefixes_are_of_several_commands(rt: HostRuntime) {
+    for (name, letters, verb) in [
+        ("config", 4, Verb::Config),
+        ("connect", 4, Verb::Connect),
+        ("help", 1, Verb::Help),
+        ("list", 1, Verb::List),
+        ("mkpeer", 2, Verb::Mkpeer),
+        ("msg", 2, Verb::Msg),
+        ("name", 1, Verb::Name),
+        ("quit", 1, Verb::Quit),
+        ("rmhook", 1, Verb::Rmhook),
+        ("show", 3, Verb::Show),
+        ("shutdown", 3, Verb::Shutdown),
+        ("status", 2, Verb::Status),
+        ("types", 1, Verb::Types),
+        ("write", 1, Verb::Write),
+    ] {
+        let bytes = name.as_bytes();
+        for len in 1..=bytes.len() {
+            let want = if len < letters {
+                Err(Refusal::Ambiguous)
+            } else {
+                Ok(verb)
+            };
+            assert_eq!(rt; Verb::named(&bytes[..len]), want, "{name:?} {len}");
+        }
     }
 }

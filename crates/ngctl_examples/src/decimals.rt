@@ -1,5 +1,5 @@
 // Words and the numbers that they say.
-use crate::read_decimal;
+use ng_decimal::read_decimal;
 
 const READ: [(&str, Option<u64>); 14] = [
     ("0", Some(0)),

@@ -1,8 +1,8 @@
 // The parts of a text, as tables, and what a sink holds of one that is slow, fails or has little room.
-use crate::{PrintStop, print_frame, print_port, print_refused, print_summary};
 use ng_base::{Errno, Name, NoMemory};
 use ng_machine::{PortTotals, Totals};
 use ng_outside::MemSink;
+use ngctl_print::{PrintStop, print_frame, print_port, print_refused, print_summary};
 use std::alloc::Global;
 use std::test::Fail;
 
