@@ -12,3 +12,4 @@ pub mod KeptPorts
 pub mod FedStories
 pub mod Beginnings
 pub mod Starting
+pub mod StillPlans

@@ -6,3 +6,5 @@ pub mod Stops
 pub mod Away
 pub mod Lawful
 pub mod Counting
+pub mod StillWorld
+pub mod Planned

@@ -10,8 +10,10 @@ mod feeding;
 mod machine;
 mod making;
 mod showing;
+mod still;
 mod stopping;
 mod taking;
 
 pub use fault::FeedFault;
 pub use machine::Core;
+pub use still::Still;
