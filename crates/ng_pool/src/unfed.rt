@@ -15,7 +15,7 @@ use std::marker::Model;
 
 /// Inputs in their order, of which the next can be had and put back at once. They are kept the last one first.
 #[derive(Drop)]
-pub(crate) struct Unfed {
+pub struct Unfed {
     backwards: Vec<Input>,
 }
 
@@ -30,7 +30,7 @@ impl Model for Unfed {
 
 impl Unfed {
     /// The inputs, moved.
-    pub(crate) fn new(mut inputs: Vec<Input>) -> Unfed
+    pub fn new(mut inputs: Vec<Input>) -> Unfed
         ensures { result ≡ inputs.items }
     {
         inputs.reverse();
@@ -38,14 +38,14 @@ impl Unfed {
     }
 
     /// How many there are.
-    pub(crate) fn len(&self) -> usize
+    pub fn len(&self) -> usize
         ensures { result ≡ length self.now }
     {
         self.backwards.len()
     }
 
     /// The inputs, moved.
-    pub(crate) fn into_inputs(self) -> Vec<Input>
+    pub fn into_inputs(self) -> Vec<Input>
         ensures { result.items ≡ self }
     {
         let mut inputs = self.backwards;
@@ -57,7 +57,7 @@ impl Unfed {
     ///
     /// # Errors
     /// `NoMemory` where memory ran out; nothing changed.
-    pub(crate) fn feed_next<B: Node>(
+    pub fn feed_next<B: Node>(
         &mut self,
         alloc: Global,
         core: &mut Core<B>,

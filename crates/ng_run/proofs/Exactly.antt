@@ -25,7 +25,7 @@ use Rattle.ng_run.proofs.Apart.{writes_apart}
 use Rattle.ng_run.proofs.Sorts.{none_checked, none_read, none_written}
 
 -- what was read is what the files tell
-told_is : (contents : Contents) (a b : List ℕ) → IsRead contents a → IsTold contents b → a ≡ b
+pub told_is : (contents : Contents) (a b : List ℕ) → IsRead contents a → IsTold contents b → a ≡ b
 told_is NotTold a b read told = absurd told
 told_is NoFile a b read told = read ∙ sym told
 told_is (Holds held) a b read told = sym read ∙ told
@@ -55,7 +55,7 @@ found_eq a b one other =
     ap (λ (s : List ℕ). found_in s a.captures) one
     ∙ ap (λ (c : List (Option (List ℕ))). found_in b.script c) other
 
-found_is : (files : List ℕ → Contents) (source : Source) (a b : Found) → IsFound files source a → Tell files source b → a ≡ b
+pub found_is : (files : List ℕ → Contents) (source : Source) (a b : Found) → IsFound files source a → Tell files source b → a ≡ b
 found_is files (FromFiles script ports) a b is told =
     found_eq a b (told_is (files script) a.script b.script is.0 told.0) (captures_are files ports a.captures b.captures is.1 told.1)
 found_is files (Made packets) a b is told = is ∙ sym told

@@ -61,28 +61,28 @@ whole_read NoFile bytes there whole = absurd there
 whole_read (Holds held) bytes there whole = sym whole
 
 -- more bytes than so many that may be read of a file
-big_read : (contents : Contents) (most : ℕ) → MayBeThere contents → IfHolds contents (λ bytes. most < length bytes)
+pub big_read : (contents : Contents) (most : ℕ) → MayBeThere contents → IfHolds contents (λ bytes. most < length bytes)
     → (bytes : List ℕ) × IsRead contents bytes × (most < length bytes)
 big_read NotTold most there big = (replicate (most + 1) 0, tt, rw (length-replicate {A = ℕ} (most + 1) 0) (omega arith))
 big_read NoFile most there big = absurd there
 big_read (Holds bytes) most there big = (bytes, refl, big)
 
-over_is : {F : Type 0} (most n : ℕ) (fault : F) → most < n → over most n fault ≡ Some fault
+pub over_is : {F : Type 0} (most n : ℕ) (fault : F) → most < n → over most n fault ≡ Some fault
 over_is most n fault more = ap (λ (b : Bool). if b then Some fault else None) (lt-ltb most n more)
 
-over_none : {F : Type 0} (most n : ℕ) (fault : F) → n ≤ most → over most n fault ≡ None
+pub over_none : {F : Type 0} (most n : ℕ) (fault : F) → n ≤ most → over most n fault ≡ None
 over_none most n fault fits = ap (λ (b : Bool). if b then Some fault else None) (le-ltb most n fits)
 
 -- Two checks behind a read
 
-checks_fine : {F : Type 0} (files : List ℕ → Contents) (a b : Option F) (rest : List (Step F)) → a ≡ None → b ≡ None
+pub checks_fine : {F : Type 0} (files : List ℕ → Contents) (a b : Option F) (rest : List (Step F)) → a ≡ None → b ≡ None
     → first_fault files rest ≡ None → first_fault files (Checks a ∷ Checks b ∷ rest) ≡ None
 checks_fine files a b rest first second later = rw (first, second) later
 
-check_first : {F : Type 0} (o : Outside) (a : Option F) (fault : F) (rest : List (Step F)) → a ≡ Some fault → Refuses o (Checks a ∷ rest) fault
+pub check_first : {F : Type 0} (o : Outside) (a : Option F) (fault : F) (rest : List (Step F)) → a ≡ Some fault → Refuses o (Checks a ∷ rest) fault
 check_first o a fault rest is = rw is refl
 
-check_later : {F : Type 0} (o : Outside) (a : Option F) (fault : F) (rest : List (Step F)) → a ≡ None → Refuses o rest fault
+pub check_later : {F : Type 0} (o : Outside) (a : Option F) (fault : F) (rest : List (Step F)) → a ≡ None → Refuses o rest fault
     → Refuses o (Checks a ∷ rest) fault
 check_later o a fault rest none later = rw none later
 

@@ -67,7 +67,7 @@ ranged true true false n m e = absurd (cc e)
 ranged true false c n m e = absurd (cc e)
 ranged false b c n m e = absurd (cc e)
 
-in_range : (least most : ℕ) (word : List ℕ) (n : ℕ) → number_from least most word ≡ Some n → (least ≤ n) × (n ≤ most)
+pub in_range : (least most : ℕ) (word : List ℕ) (n : ℕ) → number_from least most word ≡ Some n → (least ≤ n) × (n ≤ most)
 in_range least most word n e =
     let all = ranged (is_number word) (nat_le least (digits_value 10 word)) (nat_le (digits_value 10 word) most) (digits_value 10 word) n e in (
       subst (λ (k : ℕ). least ≤ k) all.2 (leb-true least (digits_value 10 word) all.0),
@@ -87,10 +87,10 @@ is_named : (fault : Option NameFault) → is_none fault ≡ true → fault ≡ N
 is_named None e = refl
 is_named (Some fault) e = absurd (cc e)
 
-node_is_name : (word : List ℕ) → is_node_name word ≡ true → IsName word
+pub node_is_name : (word : List ℕ) → is_node_name word ≡ true → IsName word
 node_is_name word e = is_named (name_fault word) (and_left (is_name word) (not (begins_with 0x5b word)) e)
 
-if_name : (test : Bool) (word name : List ℕ) → (test ≡ true → IsName word) → (if test then Some word else None) ≡ Some name → IsName name
+pub if_name : (test : Bool) (word name : List ℕ) → (test ≡ true → IsName word) → (if test then Some word else None) ≡ Some name → IsName name
 if_name true word name is e = let same : word ≡ name = cc e in subst (λ (n : List ℕ). IsName n) same (is refl)
 if_name false word name is e = absurd (cc e)
 
@@ -104,7 +104,7 @@ if_port : (test : Bool) (made port : PortWord) → (test ≡ true → HasName ma
 if_port true made port is e = let same : made ≡ port = cc e in subst (λ (p : PortWord). HasName p) same (is refl)
 if_port false made port is e = absurd (cc e)
 
-port_named : (name : List ℕ) (files : Option (List ℕ × List ℕ)) (port : PortWord) → port_if name files ≡ Some port → HasName port
+pub port_named : (name : List ℕ) (files : Option (List ℕ × List ℕ)) (port : PortWord) → port_if name files ≡ Some port → HasName port
 port_named name None port e = absurd (cc e)
 port_named name (Some files) port e =
     if_port (is_node_name name) (record { name = name; in_file = files.0; out_file = files.1 }) port (node_is_name name) e
@@ -113,7 +113,7 @@ parts_named : (parts : Option (List ℕ × List ℕ)) (port : PortWord) → port
 parts_named None port e = absurd (cc e)
 parts_named (Some parts) port e = port_named parts.0 (files_of InAndOut parts.1) port e
 
-with_named : (one : Option PortWord) (others : Option (List PortWord)) (ports : List PortWord)
+pub with_named : (one : Option PortWord) (others : Option (List PortWord)) (ports : List PortWord)
     → ((p : PortWord) → one ≡ Some p → HasName p) → ((ps : List PortWord) → others ≡ Some ps → Every HasName ps)
     → with_port one others ≡ Some ports → Every HasName ports
 with_named None others ports a b e = absurd (cc e)

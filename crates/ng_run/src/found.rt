@@ -5,7 +5,7 @@ use ngctl_script::Script;
 
 /// A script, as it is fed and as it is printed.
 #[derive(Drop)]
-pub(crate) struct ReadScript {
+pub struct ReadScript {
     /// The commands with their times.
     pub script: Script,
     /// The commands alone, in order.
@@ -14,7 +14,9 @@ pub(crate) struct ReadScript {
 
 /// A script, and a capture for each port, in order. A port that receives nothing has one without packets.
 #[derive(Drop)]
-pub(crate) struct ReadIn {
+pub struct ReadIn {
+    /// The script.
     pub script: ReadScript,
+    /// The captures, one for each port.
     pub captures: Vec<Capture>,
 }

@@ -14,6 +14,9 @@ mod top;
 mod write;
 
 pub use ended::{Ended, Fault, Which};
-pub use line::fault_line;
+pub use found::{ReadIn, ReadScript};
+pub use line::{capture_words, fault_line, fault_words, script_words};
 pub use machine::Machine;
-pub use top::ngrun;
+pub use read::{read_files, read_ports, read_script_file};
+pub use text::is_stopped;
+pub use top::{cuts_of, ngrun};

@@ -71,8 +71,11 @@ fn file_name(which: Which, words: &Option<Words>) -> &str
     }
 }
 
-// What is said of a fault of the script.
-fn script_words(alloc: Global, fault: ScriptFault) -> Result<String, AllocError>
+/// What is said of a fault of the script.
+///
+/// # Errors
+/// Memory ran out, and nothing else.
+pub fn script_words(alloc: Global, fault: ScriptFault) -> Result<String, AllocError>
     ensures { IfOk result (λ said. string_bytes said ≡ script_words fault) }
 {
     match fault {
@@ -83,8 +86,11 @@ fn script_words(alloc: Global, fault: ScriptFault) -> Result<String, AllocError>
     }
 }
 
-// What is said of a fault of a capture.
-fn capture_words(alloc: Global, why: CaptureFault) -> Result<String, AllocError>
+/// What is said of a fault of a capture.
+///
+/// # Errors
+/// Memory ran out, and nothing else.
+pub fn capture_words(alloc: Global, why: CaptureFault) -> Result<String, AllocError>
     ensures { IfOk result (λ said. string_bytes said ≡ capture_words why) }
 {
     match why {
@@ -107,8 +113,16 @@ fn port_text(alloc: Global, words: &Option<Words>, port: u32) -> Result<Vec<u8>,
     }
 }
 
-// What is said of a fault.
-fn fault_words(alloc: Global, fault: Fault, words: &Option<Words>) -> Result<Vec<u8>, AllocError>
+/// What is said of a fault of a call with these words, without what stands before it on its line. A file or a port that the words
+/// do not have is told without a name.
+///
+/// # Errors
+/// Where memory ran out, and for nothing else.
+pub fn fault_words(
+    alloc: Global,
+    fault: Fault,
+    words: &Option<Words>,
+) -> Result<Vec<u8>, AllocError>
     ensures { IfOk result (λ said. said.items ≡ fault_words fault words.now) }
 {
     match fault {

@@ -27,8 +27,15 @@ const MOST_BYTES: u64 = 268_435_456;
 
 const MOST_PACKETS: u64 = 1_000_000;
 
-// The script of a file.
-fn read_script_file<F: Files>(alloc: Global, name: &str, files: &mut F) -> Result<ReadScript, Fault>
+/// The script of a file.
+///
+/// # Errors
+/// The fault of the file, or `NoMemory` where memory ran out.
+pub fn read_script_file<F: Files>(
+    alloc: Global,
+    name: &str,
+    files: &mut F,
+) -> Result<ReadScript, Fault>
     ensures ok { IfOk result (λ read. ScriptPasses (F.contents files.old) name.now read.script read.commands.items) }
     ensures err { IfErr result (λ fault. (bytes : List ℕ) × IsRead (F.contents files.old name.now) bytes
         × Stops (of_files (F.contents files.old) (F.contents files.new) (F.faults files.old) (F.faults files.new)) (script_steps names name.now bytes) fault) }
@@ -96,8 +103,12 @@ fn no_capture(alloc: Global) -> Capture
     }
 }
 
-// The captures of the ports from one on, behind others of so many bytes and packets.
-fn read_ports<F: Files>(
+/// Reads the captures of the ports from one on, behind others of so many bytes and packets, and adds them. A port that receives
+/// nothing has one without packets.
+///
+/// # Errors
+/// The first fault of their files, or `NoMemory` where memory ran out.
+pub fn read_ports<F: Files>(
     alloc: Global,
     port: u32,
     bytes: u64,
@@ -149,11 +160,12 @@ fn read_ports<F: Files>(
     }
 }
 
-/// The script and the captures that files hold.
+/// The script and the captures that files hold: SCRIPT, and the IN of each port, in order. No file is written.
 ///
 /// # Errors
-/// The first fault of them, or that of a read before it, or `NoMemory` where memory ran out.
-pub(crate) fn read_files<F: Files>(
+/// The first fault of them, in the order of the call: not read, too big, not in form. A fault of reading comes only where the
+/// files' count of that name rose; or `NoMemory` where memory ran out.
+pub fn read_files<F: Files>(
     alloc: Global,
     script: &FileName,
     ports: &[PortWord],

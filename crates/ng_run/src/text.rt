@@ -26,8 +26,8 @@ fn is_stop(event: &Event) -> bool
     }
 }
 
-/// Whether a run stopped at its limit.
-pub(crate) fn is_stopped(journal: &[Event]) -> bool
+/// Whether the run of a journal stopped at its limit of applied items: the journal has a Stop.
+pub fn is_stopped(journal: &[Event]) -> bool
     ensures { result ≡ list_any is_stop journal.now }
 {
     journal.iter().any(|event| is_stop(event))

@@ -55,8 +55,11 @@ fn refused(alloc: Global, fault: Fault) -> Ended
     }
 }
 
-// The places where captures were cut.
-fn cuts_of(alloc: Global, captures: &[Capture]) -> Result<Vec<Option<u64>>, NoMemory>
+/// The places where captures were cut, in bytes, in order; `None` for those that were whole.
+///
+/// # Errors
+/// `NoMemory` where memory ran out, and for nothing else.
+pub fn cuts_of(alloc: Global, captures: &[Capture]) -> Result<Vec<Option<u64>>, NoMemory>
     ensures { IfOk result (λ cuts. cuts.items ≡ map (λ capture. capture.cut) captures.now) }
 {
     let mut cuts = Vec::new(alloc);
