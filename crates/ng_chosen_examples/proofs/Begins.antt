@@ -42,9 +42,9 @@ few_commands (x ∷ inputs) = let rest = few_commands inputs in by (is_command x
     by true le = omega arith
     by false le = omega arith
 
-pub begun_fits : (own : List ℕ) (ports : List (List ℕ)) (kinds : List Kind) (seats : ℕ) (inputs : List Input) → length ports ≤ 2 → length inputs ≤ 4096 → list_all (fits_input (length ports)) inputs ≡ true
-    → AreFitFor (story (begun_core own ports kinds 1000 seats)) inputs
-begun_fits own ports kinds seats inputs few short fit = record {
+pub begun_fits : (own : List ℕ) (ports : List (List ℕ)) (kinds : List Kind) (budget seats : ℕ) (inputs : List Input) → budget ≤ 1000 → length ports ≤ 2 → length inputs ≤ 4096
+    → list_all (fits_input (length ports)) inputs ≡ true → AreFitFor (story (begun_core own ports kinds budget seats)) inputs
+begun_fits own ports kinds budget seats inputs low few short fit = record {
   budget = omega arith;
   ports = omega arith;
   commands = let less = few_commands inputs in omega arith;

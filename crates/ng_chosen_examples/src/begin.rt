@@ -9,24 +9,26 @@ ghost use Rattle.ng_seats.specs.Calls.{are_different};
 
 use crate::accounts::are_accounted;
 use crate::fitting::all_fit;
-use ng_base::{Name, NoMemory};
+use ng_base::{Event, Name, NoMemory};
 use ng_bridge_type::blank_bridge;
 use ng_edge_types::{blank_ether, blank_socket};
+use ng_judge::{Verdict, judge};
 use ng_machine::{Input, Totals};
 use ng_node::Node;
 use ng_pool::{Move, chosen, plain};
 use ng_seats::Core;
-use ng_simple_types::{blank_hole, blank_hub};
+use ng_simple_types::{blank_echo, blank_hole, blank_hub};
 use std::alloc::Global;
 use std::test::Fail;
 
-/// What a run came to: the places of moves that were skipped, the counts, and whether each item is accounted for.
+/// What a run came to: the places of moves that were skipped, the counts, its journal, and whether each item is accounted for.
 #[derive(Drop)]
 pub(crate) struct Summary {
     pub(crate) skipped: Vec<u32>,
     pub(crate) totals: Totals,
     pub(crate) ended: bool,
     pub(crate) accounted: bool,
+    pub(crate) journal: Vec<Event>,
 }
 
 fn socket(alloc: Global) -> Result<Box<dyn Node + Send>, Fail>
@@ -59,6 +61,12 @@ fn bridge(alloc: Global) -> Result<Box<dyn Node + Send>, Fail>
     Ok(Box::new(alloc, blank_bridge(alloc)?)?)
 }
 
+fn echo(alloc: Global) -> Result<Box<dyn Node + Send>, Fail>
+    ensures { IfOk result (λ b. state b ≡ blank_of kind.Echo) }
+{
+    Ok(Box::new(alloc, blank_echo(alloc)?)?)
+}
+
 // One box more, which is blank.
 fn put<B: Node>(stock: &mut Vec<B>, node: B) -> Result<(), Fail>
     requires all { All (λ b. B.state b ≡ blank_of (kind_of (B.state b))) stock.old.items }
@@ -72,7 +80,7 @@ fn put<B: Node>(stock: &mut Vec<B>, node: B) -> Result<(), Fail>
     Ok(())
 }
 
-/// A socket, two ethers, three hubs, two holes and a bridge.
+/// A socket, two ethers, three hubs, two holes, a bridge and an echo.
 pub(crate) fn boxes(alloc: Global) -> Result<Vec<Box<dyn Node + Send>>, Fail>
     ensures blank { IfOk result (λ stock. All (λ b. state b ≡ blank_of (kind_of (state b))) stock.items) }
     ensures kinds { IfOk result (λ stock. map (λ b. kind_of (state b)) stock.items ≡ stocked) }
@@ -87,6 +95,7 @@ pub(crate) fn boxes(alloc: Global) -> Result<Vec<Box<dyn Node + Send>>, Fail>
     put(&mut stock, hole(alloc)?)?;
     put(&mut stock, hole(alloc)?)?;
     put(&mut stock, bridge(alloc)?)?;
+    put(&mut stock, echo(alloc)?)?;
     Ok(stock)
 }
 
@@ -154,5 +163,32 @@ pub(crate) fn play<B: Node>(
         totals,
         ended: core.ended(),
         accounted,
+        journal: core.into_journal(),
     })
+}
+
+/// What is said of a journal, by a new core of so many seats that applies at most `budget` items, and these inputs.
+pub(crate) fn judged<B: Node>(
+    alloc: Global,
+    ports: Vec<Name>,
+    stock: Vec<B>,
+    limits: (u64, u32),
+    inputs: Vec<Input>,
+    journal: &[Event],
+) -> Result<Verdict, Fail>
+    requires blank { All (λ b. B.state b ≡ blank_of (kind_of (B.state b))) stock.items }
+    requires kinds { map (λ b. kind_of (B.state b)) stock.items ≡ stocked }
+    requires budget { limits.0 ≤ 1000 }
+    requires seats { 0 < limits.1 }
+{
+    let own = Name::read(b"ngctl")?;
+    if !may_begin(&own, &ports) {
+        return Err(NoMemory)?;
+    }
+    if !may_run(&inputs, ports.len(), &[]) {
+        return Err(NoMemory)?;
+    }
+    let (budget, seats) = limits;
+    let mut core = Core::new(alloc, own, ports, stock, budget, seats)?;
+    Ok(judge(alloc, &mut core, seats, inputs, journal)?)
 }

@@ -1,4 +1,4 @@
-//! Worked runs of the core by moves that are chosen beforehand, each ended plainly.
+//! Worked runs of the core by moves that are chosen beforehand, each ended plainly, and journals that are judged.
 #![tactic(auto)]
 
 #[cfg(test)]
@@ -11,5 +11,7 @@ mod examples;
 mod fitting;
 #[cfg(test)]
 mod inputs;
+#[cfg(test)]
+mod journals;
 #[cfg(test)]
 mod lists;

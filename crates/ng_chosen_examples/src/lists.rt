@@ -1,7 +1,8 @@
-// Lists of moves by a rule: whatever the moves, each item is applied, dropped or pending, and once.
-use crate::begin::{boxes, play, ports};
+// Lists of moves by a rule: whatever the moves, each item is applied, dropped or pending, and once, and the journal is accepted.
+use crate::begin::{boxes, judged, play, ports};
 use crate::examples::GIVEN;
 use crate::inputs::inputs;
+use ng_judge::Verdict;
 use ng_pool::Move;
 use std::alloc::Global;
 use std::test::Fail;
@@ -29,7 +30,7 @@ fn moves(alloc: Global, list: u32) -> Result<Vec<Move>, Fail> {
 }
 
 #[test]
-fn each_item_is_accounted_for(rt: HostRuntime) -> Result<(), Fail> {
+fn each_item_is_accounted_for_and_each_journal_accepted(rt: HostRuntime) -> Result<(), Fail> {
     let alloc = rt.alloc();
     for (count, given) in GIVEN {
         for list in 0..20 {
@@ -43,6 +44,15 @@ fn each_item_is_accounted_for(rt: HostRuntime) -> Result<(), Fail> {
             )?;
             assert!(rt; run.ended, "list {list}");
             assert!(rt; run.accounted, "list {list}");
+            let verdict = judged(
+                alloc,
+                ports(alloc, count)?,
+                boxes(alloc)?,
+                (1000, 2),
+                inputs(alloc, given)?,
+                &run.journal,
+            )?;
+            assert_eq!(rt; verdict, Verdict::Yes, "list {list}");
         }
     }
     Ok(())

@@ -22,7 +22,7 @@ chosen-requires-clause-fits g c κs within =
     subst (λ (n : ℕ). list_all (fits_input n) c.args.inputs.items ≡ true) count
     (subst (λ (l : List Input). list_all (fits_input c.len.result) l ≡ true) c.deref-2.ensures.value (c.may_run.ensures.fits c.if-not-may_run.false)) in
     subst (λ (x : CoreStory). AreFitFor (story x) c.args.inputs.items) (sym c.in_ok-core.ensures)
-    (begun_fits c.in_ok-own.own c.args.ports.items (map (λ b. kind_of (g.B.Node.state b)) c.args.stock.items) c.args.seats c.args.inputs.items few short fit)
+    (begun_fits c.in_ok-own.own c.args.ports.items (map (λ b. kind_of (g.B.Node.state b)) c.args.stock.items) 1000 c.args.seats c.args.inputs.items (omega arith) few short fit)
 
 pub plain-requires-clause-running : goal.plain-requires-clause-running
 plain-requires-clause-running g c κs within = c.in_ok-chosen.ensures.ends ∙ runs g (goal.at.plain-requires-clause-running g c).In_ok-core

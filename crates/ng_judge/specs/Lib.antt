@@ -1,0 +1,3 @@
+pub mod Verdict
+pub mod Following
+pub mod Laws
