@@ -1,0 +1,8 @@
+pub mod Sent
+pub mod Growing
+pub mod Driven
+pub mod Holdings
+pub mod Rows
+pub mod OwnEvents
+pub mod EndedRuns
+pub mod WholeRuns

@@ -1,0 +1,8 @@
+use Rattle.std.proofs.Common.{◌∙◌, sym}
+use Rattle.ng_workers.proofs.Holdings.{others_stay}
+use Rattle.ng_workers.proofs.attending.return_work.Goals as goal
+
+pub put-pass-requires-clause-others : goal.put-pass-requires-clause-others
+put-pass-requires-clause-others g c =
+    others_stay c.take-held.result.found.value c.value_mut.result.now c.give_back-left.new.core c.seat-seat.result c.take-held.result.seat
+    (c.take-held.ensures.value ∙ sym c.value_mut.ensures.value) (c.take-held.ensures.seat ∙ sym c.seat-seat.ensures) c.give_back-left.ensures.others

@@ -1,0 +1,12 @@
+use Rattle.std.proofs.Common.{◌≡◌, None, sym, subst}
+use Rattle.ng_seats.specs.CoreStory.{CoreStory}
+use Rattle.ng_workers.specs.Desks.{core_desk}
+use Rattle.ng_workers.specs.Driving.{Drives, IsOpenFor}
+use Rattle.ng_workers.proofs.Driven.{drives_none}
+use Rattle.ng_workers.proofs.feeding.close.Goals as goal
+
+pub returns-in-Err-clause-drove : goal.returns-in-Err-clause-drove
+returns-in-Err-clause-drove g c =
+    let d = core_desk c.args.core.now 0 in
+    let left = c.args.unfed.now in
+    subst (λ (x : CoreStory). Drives d (core_desk x 0) left left None × IsOpenFor left (core_desk x 0)) (sym c.in-Err.ensures.err) (drives_none d left c.requires.fits, c.requires.fits)

@@ -1,0 +1,5 @@
+pub mod Desks
+pub mod Driving
+pub mod Passes
+pub mod Hands
+pub mod Ending

@@ -1,0 +1,119 @@
+// The driver: the seat 0, which feeds the inputs, takes and applies as a worker does, and closes the core.
+ghost use Rattle.std.specs.Prelude.{◌≡◌, ◌<◌, false};
+ghost use Rattle.ng_turn.specs.Words.{seat_of};
+ghost use Rattle.ng_workers.specs.Desks.{IsOver, IsReady};
+ghost use Rattle.ng_workers.specs.Driving.{DroveOn, IsOpenFor};
+ghost use Rattle.ng_workers.specs.Hands.{Brings, Drove, Takes};
+ghost use Rattle.ng_workers.specs.Passes.{DroveStep, IsOf, Leaves, desk, pass_of};
+
+use crate::attending::attend;
+use crate::feeding::lead;
+use crate::next::Next;
+use crate::step::Step;
+use crate::unfed::Unfed;
+use ng_machine::Input;
+use ng_node::Node;
+use ng_outside::Gate;
+use ng_seats::Core;
+use ng_turn::{Pass, Turn};
+use ng_world::{Done, Work};
+use std::alloc::Global;
+use std::sync::Wait;
+use std::thread;
+
+// One holding: what the seat brings is applied, what may be fed is fed, and the seat takes what is next or closes the core. A
+// node that goes is dropped after it.
+fn hold<R: Wait, B: Node>(
+    rt: &R,
+    alloc: Global,
+    turn: &Turn<Core<B>>,
+    pass: Pass<Core<B>>,
+    unfed: &mut Unfed,
+    done: Option<Done<B>>,
+) -> (Pass<Core<B>>, Next<Work<B>>)
+    requires turn { IsOf turn.now pass }
+    requires seat { seat_of pass ≡ 0 }
+    requires fits { IsOpenFor unfed.old (desk pass) }
+    requires stays { (desk pass).gave_up ≡ false }
+    requires brings { Brings B.state done (desk pass) }
+    ensures turn { IsOf turn.now result.0 }
+    ensures seat { seat_of result.0 ≡ 0 }
+    ensures takes { Takes B.state result.1 (desk result.0) }
+    ensures drove { Drove result.1 (desk pass) (desk result.0) unfed.old unfed.new }
+{
+    let mut held = turn.take(rt, pass);
+    let (next, left) = lead(alloc, held.value_mut(), unfed, done);
+    let pass = turn.put(rt, held);
+    drop(left);
+    (pass, next)
+}
+
+// One holding, and the work on what was taken in it. Where there is nothing to do other threads may run.
+fn step<R: Wait, B: Node, G: Gate>(
+    rt: &R,
+    alloc: Global,
+    turn: &Turn<Core<B>>,
+    pass: Pass<Core<B>>,
+    unfed: &mut Unfed,
+    gate: &G,
+    done: Option<Done<B>>,
+) -> Step<Pass<Core<B>>, Option<Done<B>>>
+    requires turn { IsOf turn.now pass }
+    requires seat { seat_of pass ≡ 0 }
+    requires some { 0 < (desk pass).seats }
+    requires fits { IsOpenFor unfed.old (desk pass) }
+    requires stays { (desk pass).gave_up ≡ false }
+    requires brings { Brings B.state done (desk pass) }
+    ensures turn { IsOf turn.now (pass_of result) }
+    ensures seat { seat_of (pass_of result) ≡ 0 }
+    ensures leaves { Leaves B.state result }
+    ensures drove { DroveStep (desk pass) unfed.old unfed.new result }
+{
+    let (pass, next) = hold(rt, alloc, turn, pass, unfed, done);
+    match next {
+        Next::Taken(taken) => attend(rt, alloc, turn, pass, gate, taken),
+        Next::Nothing => {
+            thread::yield_now();
+            Step::Goes(pass, None)
+        }
+        Next::End => Step::Ends(pass),
+    }
+}
+
+/// Feeds the inputs in order, as the seat 0, and takes items, works on them and applies them as a worker does, until nothing is
+/// left or the limit of applied items is reached, and closes the core; or until memory runs out. In each holding every input
+/// that may be fed is fed before an item is taken. Between a take and its work the gate is passed. Waits for its turns, and
+/// while there is nothing to do.
+///
+/// The pass that comes back is of the seat 0: some of the inputs were fed in order, and the core is closed with the number of
+/// those that are left, none or by a Stop; or the seat gave up. Its own events only grew, with no Back unless the seat gave up.
+pub fn drive<R: Wait, B: Node, G: Gate>(
+    rt: &R,
+    alloc: Global,
+    turn: &Turn<Core<B>>,
+    mut pass: Pass<Core<B>>,
+    inputs: Vec<Input>,
+    gate: &G,
+) -> Pass<Core<B>>
+    requires turn { IsOf turn.now pass }
+    requires seat { seat_of pass ≡ 0 }
+    requires ready { IsReady 0 (desk pass) }
+    requires fits { IsOpenFor inputs.items (desk pass) }
+    ensures turn { IsOf turn.now result }
+    ensures seat { seat_of result ≡ 0 }
+    ensures drove { DroveOn (desk pass) (desk result) inputs.items }
+    ensures over { IsOver (desk result) }
+{
+    let mut unfed = Unfed::new(inputs);
+    let mut done = None;
+    for _ in rt.forever() {
+        match step(rt, alloc, turn, pass, &mut unfed, gate, done) {
+            Step::Goes(next, brings) => {
+                pass = next;
+                done = brings;
+            }
+            Step::Ends(last) => return last,
+        }
+    }
+    unreachable!()
+}

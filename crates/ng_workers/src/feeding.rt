@@ -1,0 +1,138 @@
+// What the seat 0 does while it holds the core: it hands in what it worked on, feeds what may be fed, and takes more or closes.
+ghost use Rattle.std.specs.Prelude.{◌≡◌, ◌<◌, List, false, true, length, None, IfOk, OnOk, OnErr};
+ghost use Rattle.ng_machine.specs.declared.input.Input.{Input as TheInput};
+ghost use Rattle.ng_machine.specs.Desk.{Idle};
+ghost use Rattle.ng_pool.specs.Feeding.{IsUnfed};
+ghost use Rattle.ng_seats.specs.CoreStory.{story};
+ghost use Rattle.ng_story.specs.Desks.{Others};
+ghost use Rattle.ng_story.specs.Story.{has_ended};
+ghost use Rattle.ng_workers.specs.Desks.{core_desk};
+ghost use Rattle.ng_workers.specs.Driving.{Drives, IsOpenFor};
+ghost use Rattle.ng_workers.specs.Hands.{Brings, Drove, Takes};
+
+use crate::holding::{Leftover, hand_in, quit, take_next};
+use crate::next::Next;
+use crate::unfed::Unfed;
+use ng_base::NoMemory;
+use ng_node::Node;
+use ng_seats::Core;
+use ng_world::{Done, Work};
+use std::alloc::Global;
+
+// Feeds the next input, where it may be fed now; false where it may not.
+fn feed_one<B: Node>(alloc: Global, core: &mut Core<B>, unfed: &mut Unfed) -> Result<bool, NoMemory>
+    requires running { has_ended (story core.old) ≡ false }
+    requires fits { IsOpenFor unfed.old (core_desk core.old 0) }
+    ensures drives { OnOk result (Drives (core_desk core.old 0) (core_desk core.new 0) unfed.old unfed.new None) }
+    ensures fits { OnOk result (IsOpenFor unfed.new (core_desk core.new 0)) }
+    ensures less { IfOk result (λ fed. fed ≡ true → length unfed.new < length unfed.old) }
+    ensures all { IfOk result (λ fed. fed ≡ false → IsUnfed (story core.new) unfed.new) }
+    ensures running { OnOk result (has_ended (story core.new) ≡ false) }
+    ensures job { (core_desk core.new 0).job ≡ (core_desk core.old 0).job }
+    ensures stays { (core_desk core.new 0).gave_up ≡ (core_desk core.old 0).gave_up }
+    ensures err { OnErr result (core.new ≡ core.old) }
+    ensures others { Others 0 (story core.old) (story core.new) }
+{
+    core.journal();
+    let fed = unfed.feed_next(alloc, core)?;
+    Ok(fed)
+}
+
+// Feeds each input that may be fed now, in order. After out of memory some were fed.
+fn feed_all<B: Node>(alloc: Global, core: &mut Core<B>, unfed: &mut Unfed) -> Result<(), NoMemory>
+    requires running { has_ended (story core.old) ≡ false }
+    requires fits { IsOpenFor unfed.old (core_desk core.old 0) }
+    ensures drives { OnOk result (Drives (core_desk core.old 0) (core_desk core.new 0) unfed.old unfed.new None) }
+    ensures fits { OnOk result (IsOpenFor unfed.new (core_desk core.new 0)) }
+    ensures all { OnOk result (IsUnfed (story core.new) unfed.new) }
+    ensures running { OnOk result (has_ended (story core.new) ≡ false) }
+    ensures some { OnErr result ((left : List TheInput) × Drives (core_desk core.old 0) (core_desk core.new 0) unfed.old left None) }
+    ensures job { (core_desk core.new 0).job ≡ (core_desk core.old 0).job }
+    ensures stays { (core_desk core.new 0).gave_up ≡ (core_desk core.old 0).gave_up }
+    ensures others { Others 0 (story core.old) (story core.new) }
+{
+    loop {
+        if !feed_one(alloc, core, unfed)? {
+            return Ok(());
+        }
+    }
+}
+
+// Closes the core, where it may be closed; else there is nothing to do now.
+fn close<B: Node>(core: &mut Core<B>, unfed: &Unfed) -> Next<Work<B>>
+    requires running { has_ended (story core.old) ≡ false }
+    requires fits { IsOpenFor unfed.now (core_desk core.old 0) }
+    requires stays { (core_desk core.old 0).gave_up ≡ false }
+    requires idle { (core_desk core.old 0).job ≡ Idle }
+    ensures takes { Takes B.state result (core_desk core.new 0) }
+    ensures drove { Drove result (core_desk core.old 0) (core_desk core.new 0) unfed.now unfed.now }
+    ensures others { Others 0 (story core.old) (story core.new) }
+{
+    match core.close(unfed.len() as u64) {
+        Ok(()) => Next::End,
+        Err(_) => Next::Nothing,
+    }
+}
+
+// Takes an item, or closes the core where nothing is left to do.
+fn take_or_close<B: Node>(core: &mut Core<B>, unfed: &Unfed) -> Next<Work<B>>
+    requires running { has_ended (story core.old) ≡ false }
+    requires fits { IsOpenFor unfed.now (core_desk core.old 0) }
+    requires stays { (core_desk core.old 0).gave_up ≡ false }
+    requires idle { (core_desk core.old 0).job ≡ Idle }
+    ensures takes { Takes B.state result (core_desk core.new 0) }
+    ensures drove { Drove result (core_desk core.old 0) (core_desk core.new 0) unfed.now unfed.now }
+    ensures others { Others 0 (story core.old) (story core.new) }
+{
+    core.journal();
+    match take_next(core, 0) {
+        Next::Taken(taken) => Next::Taken(taken),
+        Next::Nothing => close(core, unfed),
+        Next::End => Next::End,
+    }
+}
+
+// Feeds what may be fed, and then takes an item or closes the core. Where the core has failed or memory runs out the seat gives
+// up.
+fn feed_and_take<B: Node>(alloc: Global, core: &mut Core<B>, unfed: &mut Unfed) -> Next<Work<B>>
+    requires fits { IsOpenFor unfed.old (core_desk core.old 0) }
+    requires stays { (core_desk core.old 0).gave_up ≡ false }
+    requires idle { (core_desk core.old 0).job ≡ Idle }
+    ensures takes { Takes B.state result (core_desk core.new 0) }
+    ensures drove { Drove result (core_desk core.old 0) (core_desk core.new 0) unfed.old unfed.new }
+    ensures others { Others 0 (story core.old) (story core.new) }
+{
+    core.journal();
+    if core.ended() {
+        return quit(core, 0);
+    }
+    match feed_all(alloc, core, unfed) {
+        Ok(()) => take_or_close(core, unfed),
+        Err(NoMemory) => {
+            core.journal();
+            quit(core, 0)
+        }
+    }
+}
+
+/// One holding of the seat 0: what it brings is applied, every input that may be fed is fed, and then it takes what is next, or
+/// closes the core.
+pub(crate) fn lead<B: Node>(
+    alloc: Global,
+    core: &mut Core<B>,
+    unfed: &mut Unfed,
+    done: Option<Done<B>>,
+) -> (Next<Work<B>>, Leftover<B>)
+    requires fits { IsOpenFor unfed.old (core_desk core.old 0) }
+    requires stays { (core_desk core.old 0).gave_up ≡ false }
+    requires brings { Brings B.state done (core_desk core.old 0) }
+    ensures takes { Takes B.state result.0 (core_desk core.new 0) }
+    ensures drove { Drove result.0 (core_desk core.old 0) (core_desk core.new 0) unfed.old unfed.new }
+    ensures others { Others 0 (story core.old) (story core.new) }
+{
+    core.journal();
+    match hand_in(alloc, core, 0, done) {
+        Ok(retired) => (feed_and_take(alloc, core, unfed), Ok(retired)),
+        Err(done) => (Next::End, Err(done)),
+    }
+}
