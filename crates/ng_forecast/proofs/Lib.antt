@@ -1,0 +1,6 @@
+pub mod Gathering
+pub mod Coming
+pub mod Standing
+pub mod Converted
+pub mod Reading
+pub mod Ending

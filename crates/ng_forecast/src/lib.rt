@@ -1,0 +1,15 @@
+//! The call of a forecast: reads what the words name, runs the commands in front of every mark, and tells where each packet of the
+//! captures leaves the graph that stands then, without running the packets.
+#![tactic(auto)]
+
+mod bag;
+mod ended;
+mod line;
+mod read;
+mod stand;
+mod text;
+mod top;
+
+pub use ended::{Forecast, ForecastFault, Source, Spread};
+pub use line::forecast_fault_line;
+pub use top::ngforecast;
