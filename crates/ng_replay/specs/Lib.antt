@@ -1,0 +1,7 @@
+pub mod Faults
+pub mod Call
+pub mod Said
+pub mod Parts
+pub mod Ends
+pub mod Exactly
+pub mod Line

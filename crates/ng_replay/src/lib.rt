@@ -1,0 +1,17 @@
+//! The call of a replay: reads a script, captures and a journal, and says whether the journal is one of their run; then it writes
+//! the text of that run.
+#![tactic(auto)]
+
+mod ended;
+mod fault;
+mod judging;
+mod line;
+mod reading;
+#[cfg(test)]
+mod tests;
+mod text;
+mod top;
+
+pub use ended::{Given, ReplayFault, Replayed};
+pub use line::replay_fault_line;
+pub use top::ngreplay;
