@@ -3,7 +3,7 @@ ghost use Rattle.std.specs.Prelude.{◌≡◌, ◌<◌, ◌≤◌, ◌∷◌, �
 ghost use Rattle.std.specs.List.{list_all};
 ghost use Rattle.ng_base.specs.declared.kind.Kind.TheVariants as kind;
 ghost use Rattle.ng_chosen_examples.specs.Fit.{fits_input};
-ghost use Rattle.ng_chosen_examples.specs.Stock.{stocked};
+ghost use Rattle.ng_chosen_examples.specs.Stock.{stocked, stocked_with_dealers};
 ghost use Rattle.ng_machine.specs.State.{blank_of, kind_of};
 ghost use Rattle.ng_seats.specs.Calls.{are_different};
 
@@ -15,11 +15,15 @@ use ng_edge_types::{blank_ether, blank_socket};
 use ng_judge::{Verdict, judge};
 use ng_machine::{Input, Totals};
 use ng_node::Node;
+use ng_outside::Gate;
 use ng_pool::{Move, chosen, plain};
 use ng_seats::Core;
 use ng_simple_types::{blank_echo, blank_hole, blank_hub};
+use ng_workers::run_workers;
 use std::alloc::Global;
+use std::sync::Wait;
 use std::test::Fail;
+use std::thread::Threads;
 
 /// What a run came to: the places of moves that were skipped, the counts, its journal, and whether each item is accounted for.
 #[derive(Drop)]
@@ -67,8 +71,8 @@ fn echo(alloc: Global) -> Result<Box<dyn Node + Send>, Fail>
     Ok(Box::new(alloc, blank_echo(alloc)?)?)
 }
 
-// One box more, which is blank.
-fn put<B: Node>(stock: &mut Vec<B>, node: B) -> Result<(), Fail>
+/// One box more, which is blank.
+pub(crate) fn put<B: Node>(stock: &mut Vec<B>, node: B) -> Result<(), Fail>
     requires all { All (λ b. B.state b ≡ blank_of (kind_of (B.state b))) stock.old.items }
     requires blank { B.state node ≡ blank_of (kind_of (B.state node)) }
     ensures all { OnOk result (All (λ b. B.state b ≡ blank_of (kind_of (B.state b))) stock.new.items) }
@@ -165,6 +169,26 @@ pub(crate) fn play<B: Node>(
         accounted,
         journal: core.into_journal(),
     })
+}
+
+/// Runs the inputs by a new core without ports and two workers, where each item passes the gate.
+pub(crate) fn run_by_two<R: Threads + Wait + Sync, B: Node, G: Gate + Sync>(
+    rt: &R,
+    alloc: Global,
+    stock: Vec<B>,
+    inputs: Vec<Input>,
+    gate: &G,
+) -> Result<Totals, Fail>
+    requires blank { All (λ b. B.state b ≡ blank_of (kind_of (B.state b))) stock.items }
+    requires kinds { map (λ b. kind_of (B.state b)) stock.items ≡ stocked_with_dealers }
+{
+    let own = Name::read(b"ngctl")?;
+    if !may_run(&inputs, 0, &[]) {
+        return Err(NoMemory)?;
+    }
+    let begun = Core::new(alloc, own, Vec::new(alloc), stock, 1000, 3)?;
+    let core = run_workers(rt, alloc, begun, 3, inputs, gate)?;
+    Ok(core.totals())
 }
 
 /// What is said of a journal, by a new core of so many seats that applies at most `budget` items, and these inputs.

@@ -152,6 +152,7 @@ ends_refused kinds words old now before after fault same f sink sb sa = record {
   made = [];
   ends = inl (record { nothing = refl; same = record { sink = refl; files = same }; cause = by f.stops });
   bag_is = refl;
+  unwritten = λ memory. record { sink = refl; files = same };
   status_is = refl;
 }
   where
@@ -174,6 +175,7 @@ module _ (kinds : List Kind) (words : ForecastWords) (old now : List ℕ → Con
     made = [];
     ends = inl (record { nothing = refl; same = record { sink = is; files = same }; cause = inl refl });
     bag_is = refl;
+    unwritten = λ memory. record { sink = is; files = same };
     status_is = refl;
   }
 
@@ -188,6 +190,7 @@ module _ (kinds : List Kind) (words : ForecastWords) (old now : List ℕ → Con
     made = bag;
     ends = inr (inr (record { passed = f.fine; ran = f.bag_is; stops = inl (inr (refl, rose), (subst (λ (t : List ℕ). AppendsPrefix sink last t) is prefix, same)) }));
     bag_is = refl;
+    unwritten = λ memory. cc memory;
     status_is = refl;
   }
 
@@ -206,6 +209,7 @@ module _ (kinds : List Kind) (words : ForecastWords) (old now : List ℕ → Con
       written = (storing last now, (subst (λ (t : List ℕ). Appends sink last t) is whole, same), record { sink = refl; files = refl });
     };
     bag_is = refl;
+    unwritten = λ memory. cc memory;
     status_is = refl;
   }
 
@@ -223,6 +227,7 @@ ends_unread kinds (Some words) o same =
       made = [];
       ends = inl (record { nothing = refl; same = same; cause = inl refl });
       bag_is = refl;
+      unwritten = λ memory. same;
       status_is = refl;
     }
 

@@ -4,3 +4,5 @@ pub mod Standing
 pub mod Converted
 pub mod Reading
 pub mod Ending
+pub mod Sorts
+pub mod Exactly

@@ -7,7 +7,7 @@ use Rattle.ng_machine.specs.World.{World}
 use Rattle.ng_machine.specs.Spread.{Spread, spread_of_all}
 use Rattle.ng_outside.specs.Contents.{Contents}
 use Rattle.ng_words.specs.declared.words.ForecastWords.{ForecastWords}
-use Rattle.ng_ends.specs.Outside.{Outside, ToSink}
+use Rattle.ng_ends.specs.Outside.{Outside, Same, ToSink}
 use Rattle.ng_ends.specs.Steps.{Step, Checks}
 use Rattle.ng_ends.specs.Writes.{Write}
 use Rattle.ng_ends.specs.Ends.{Call, Ends}
@@ -85,6 +85,7 @@ pub record EndsWith (kinds : List Kind) (words : ForecastWords) (o : Outside) (s
   pub made : Spread
   pub ends : Ends (call_of kinds words found journal) o made fault
   pub bag_is : bag ≡ handed fault made
+  pub unwritten : fault ≡ Some NoMemory → Same o.old o.now  -- where memory ran out
   pub status_is : status ≡ status_of fault
 
 pub record EndsUsage (o : Outside) (status : ℕ) (bag : Spread) (fault : Option ForecastFault) : Type 0 where

@@ -6,3 +6,4 @@ pub mod Text
 pub mod Ends
 pub mod Parts
 pub mod Line
+pub mod Exactly

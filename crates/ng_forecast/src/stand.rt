@@ -7,7 +7,7 @@ ghost use Rattle.ng_machine.specs.Laws.{world_after};
 ghost use Rattle.ng_machine.specs.State.{kind_of};
 ghost use Rattle.ng_printable.specs.Scripts.{InputsAreFit};
 ghost use Rattle.ng_run.specs.Writes.{is_stop, is_stopped};
-ghost use Rattle.ng_runner.specs.Stocked.{IsStocked};
+ghost use Rattle.ng_run.specs.Stocked.{IsStocked};
 ghost use Rattle.ng_seats.specs.CoreStory.{story};
 ghost use Rattle.ng_story.specs.Story.{world_of};
 ghost use Rattle.ng_words.specs.Together.{are_ports};

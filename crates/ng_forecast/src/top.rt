@@ -10,10 +10,11 @@ ghost use Rattle.ng_story.specs.Story.{world_of};
 ghost use Rattle.ng_forecast.specs.Packets.{packet_fault};
 ghost use Rattle.ng_forecast.specs.declared.ended.ForecastFault.TheVariants.{NoMemory as no_memory};
 ghost use Rattle.ng_run.specs.Parts.{of_files, storing, outside, counting};
-ghost use Rattle.ng_runner.specs.Stocked.{IsStocked};
+ghost use Rattle.ng_run.specs.Stocked.{IsStocked};
 ghost use Rattle.ng_words.specs.Forecast.{forecast_words_of};
 ghost use Rattle.ng_words.specs.Together.{are_ports};
 ghost use Rattle.ng_forecast.specs.Ends.{EndsBy, EndsWith, fault_status};
+ghost use Rattle.ng_forecast.specs.Exactly.{Completes, FaultComes, Foretells, LeavesPrefix, ReadsOnly, RefusesQuietly, UsageComes};
 ghost use Rattle.ng_forecast.specs.Parts.{IsForetold, IsForetoldOf, IsNotForetold, IsRefusedOf};
 ghost use Rattle.ng_forecast.specs.Steps.{flights_of};
 
@@ -176,6 +177,25 @@ fn forecast_words<B: Node, F: Files, O: Sink>(
     }
 }
 
+// The call, and its end.
+fn forecast_call<B: Node, F: Files, O: Sink>(
+    alloc: Global,
+    words: &[String],
+    files: &mut F,
+    out: &mut O,
+    stock: Vec<B>,
+) -> Forecast
+    requires stocked { IsStocked B.state stock.items }
+    ensures { EndsBy (map (λ b. kind_of (B.state b)) stock.items) (forecast_words_of (map (λ word. string_bytes word) words.now)) (outside (storing (O.contents out.old) (F.contents files.old)) (storing (O.contents out.new) (F.contents files.new))
+        (counting (O.faults out.old) (F.faults files.old)) (counting (O.faults out.new) (F.faults files.new))) result.status result.bag result.fault }
+{
+    match read_forecast_words(alloc, words) {
+        Ok(Some(said)) => forecast_words(alloc, &said, files, out, stock),
+        Ok(None) => refused(alloc, ForecastFault::Usage),
+        Err(_) => refused(alloc, ForecastFault::NoMemory),
+    }
+}
+
 /// The call of a forecast: reads the words behind `--forecast`, the script and the captures that they name, runs the commands in
 /// front of every mark, and tells where the packets of the captures leave the graph that stands then, without running them. The
 /// text goes into `out`: a line for each port, and one for each hook of the socket by which packets go to the reader.
@@ -185,6 +205,14 @@ fn forecast_words<B: Node, F: Files, O: Sink>(
 /// packets (65); commands that don't come to rest (4); for each packet in the order in which they come too many packets met on
 /// their ways, no spread, too many bytes that leave (4). Then comes the write (74). 71 may stand in place of any. The commands are
 /// run with these blank nodes.
+///
+/// `ends` says how the call ends and why, and the other clauses when each end comes. Words that are not in form are the fault, and
+/// nothing else is that fault (`usage`). Where the files tell what they hold, the first fault in the order above comes, unless a
+/// read failed (`comes`); where there is none and no count of faults rose, the call ends well (`complete`); and where it ends well,
+/// the bag is that of the spreads of all packets in the world after the commands, and `out` has grown by its text (`foretells`).
+/// All this but for 71. A fault of reading comes only where the count of that file rose (`reads`), and one of writing only where
+/// the count of `out` rose, and then a prefix of the text is written (`prefix`). With any fault the bag is empty, and with any but
+/// that of writing nothing is written (`quiet`). What the files hold stays as it was (`files`).
 pub fn ngforecast<B: Node, F: Files, O: Sink>(
     alloc: Global,
     words: &[String],
@@ -192,13 +220,23 @@ pub fn ngforecast<B: Node, F: Files, O: Sink>(
     out: &mut O,
     stock: Vec<B>,
 ) -> Forecast
-    requires { IsStocked B.state stock.items }
-    ensures { EndsBy (map (λ b. kind_of (B.state b)) stock.items) (forecast_words_of (map (λ word. string_bytes word) words.now)) (outside (storing (O.contents out.old) (F.contents files.old)) (storing (O.contents out.new) (F.contents files.new))
+    requires stocked { IsStocked B.state stock.items }
+    ensures ends { EndsBy (map (λ b. kind_of (B.state b)) stock.items) (forecast_words_of (map (λ word. string_bytes word) words.now)) (outside (storing (O.contents out.old) (F.contents files.old)) (storing (O.contents out.new) (F.contents files.new))
         (counting (O.faults out.old) (F.faults files.old)) (counting (O.faults out.new) (F.faults files.new))) result.status result.bag result.fault }
+    ensures usage { UsageComes (forecast_words_of (map (λ word. string_bytes word) words.now)) result.fault }
+    ensures comes { FaultComes (map (λ b. kind_of (B.state b)) stock.items) (forecast_words_of (map (λ word. string_bytes word) words.now)) (outside (storing (O.contents out.old) (F.contents files.old)) (storing (O.contents out.new) (F.contents files.new))
+        (counting (O.faults out.old) (F.faults files.old)) (counting (O.faults out.new) (F.faults files.new))) result.fault }
+    ensures complete { Completes (map (λ b. kind_of (B.state b)) stock.items) (forecast_words_of (map (λ word. string_bytes word) words.now)) (outside (storing (O.contents out.old) (F.contents files.old)) (storing (O.contents out.new) (F.contents files.new))
+        (counting (O.faults out.old) (F.faults files.old)) (counting (O.faults out.new) (F.faults files.new))) result.fault }
+    ensures foretells { Foretells (map (λ b. kind_of (B.state b)) stock.items) (forecast_words_of (map (λ word. string_bytes word) words.now)) (outside (storing (O.contents out.old) (F.contents files.old)) (storing (O.contents out.new) (F.contents files.new))
+        (counting (O.faults out.old) (F.faults files.old)) (counting (O.faults out.new) (F.faults files.new))) result.bag result.fault }
+    ensures reads { ReadsOnly (forecast_words_of (map (λ word. string_bytes word) words.now)) (outside (storing (O.contents out.old) (F.contents files.old)) (storing (O.contents out.new) (F.contents files.new))
+        (counting (O.faults out.old) (F.faults files.old)) (counting (O.faults out.new) (F.faults files.new))) result.fault }
+    ensures prefix { LeavesPrefix (map (λ b. kind_of (B.state b)) stock.items) (forecast_words_of (map (λ word. string_bytes word) words.now)) (outside (storing (O.contents out.old) (F.contents files.old)) (storing (O.contents out.new) (F.contents files.new))
+        (counting (O.faults out.old) (F.faults files.old)) (counting (O.faults out.new) (F.faults files.new))) result.fault }
+    ensures quiet { RefusesQuietly (outside (storing (O.contents out.old) (F.contents files.old)) (storing (O.contents out.new) (F.contents files.new))
+        (counting (O.faults out.old) (F.faults files.old)) (counting (O.faults out.new) (F.faults files.new))) result.bag result.fault }
+    ensures files { F.contents files.new ≡ F.contents files.old }
 {
-    match read_forecast_words(alloc, words) {
-        Ok(Some(said)) => forecast_words(alloc, &said, files, out, stock),
-        Ok(None) => refused(alloc, ForecastFault::Usage),
-        Err(_) => refused(alloc, ForecastFault::NoMemory),
-    }
+    forecast_call(alloc, words, files, out, stock)
 }

@@ -3,45 +3,61 @@ use ng_base::Kind;
 use ng_reading::{Found, read_message};
 use std::test::Fail;
 
-// Why these arguments of setconfig are none, for a one2many.
-const WRONG: [(&str, &str); 6] = [
+// Why these are no arguments of the message. That of a hub has none.
+const WRONG: [(Kind, &str, &str, &str); 7] = [
     (
+        Kind::One2many,
+        "setconfig",
         "{ xmitAlg=1 xmitAlg=2 }",
         "bad arguments at 12: field twice",
     ),
-    ("{ xmit=1 }", "bad arguments at 2: unknown field"),
     (
+        Kind::One2many,
+        "setconfig",
+        "{ xmit=1 }",
+        "bad arguments at 2: unknown field",
+    ),
+    (
+        Kind::One2many,
+        "setconfig",
         "{ xmitAlg=4294967296 }",
         "bad arguments at 10: out of range",
     ),
-    ("{ enabledLinks=[ 64=1 ] }", "bad arguments at 17: too many"),
-    ("", "bad arguments at 0: unexpected"),
-    ("{", "bad arguments at 1: unexpected"),
+    (
+        Kind::One2many,
+        "setconfig",
+        "{ enabledLinks=[ 64=1 ] }",
+        "bad arguments at 17: too many",
+    ),
+    (
+        Kind::One2many,
+        "setconfig",
+        "",
+        "bad arguments at 0: unexpected",
+    ),
+    (
+        Kind::One2many,
+        "setconfig",
+        "{",
+        "bad arguments at 1: unexpected",
+    ),
+    (
+        Kind::Hub,
+        "setpersistent",
+        "1",
+        "bad arguments at 0: unexpected",
+    ),
 ];
 
 #[test]
 fn wrong_arguments_are_told(rt: HostRuntime) -> Result<(), Fail> {
-    for (text, why) in WRONG {
-        let found = read_message(rt.alloc(), Kind::One2many, b"setconfig", text.as_bytes())?;
+    for (kind, name, text, why) in WRONG {
+        let found = read_message(rt.alloc(), kind, name.as_bytes(), text.as_bytes())?;
         let Found::Wrong(words) = found else {
             return Err(Fail::from("not refused"));
         };
         assert_eq!(rt; words.0.as_slice(), why.as_bytes());
     }
-    Ok(())
-}
-
-// Text for a message without arguments.
-#[test]
-fn nothing_takes_no_text(rt: HostRuntime) -> Result<(), Fail> {
-    let found = read_message(rt.alloc(), Kind::Hub, b"setpersistent", b"1")?;
-    let Found::Wrong(words) = found else {
-        return Err(Fail::from("not refused"));
-    };
-    assert_eq!(rt;
-        words.0.as_slice(),
-        b"bad arguments at 0: unexpected".as_slice()
-    );
     Ok(())
 }
 

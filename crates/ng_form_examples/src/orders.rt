@@ -31,61 +31,69 @@ fn names(alloc: Global, texts: &[&str]) -> Result<Vec<u8>, Fail> {
     Ok(args)
 }
 
-// mkpeer . echo a b, and the two ways in which a message of that number is no order
+// mkpeer . echo a b, and the two ways in which a message of that number is no order.
 #[test]
 fn an_order_is_read(rt: HostRuntime) -> Result<(), Fail> {
-    let args = names(rt.alloc(), &["echo", "a", "b"])?;
     let order = Order::Mkpeer {
         kind_name: Name::read(b"echo")?,
         ourhook: Name::read(b"a")?,
         peerhook: Name::read(b"b")?,
     };
-    assert_eq!(rt; read_order(&message(generic::MKPEER, args)), Ok(order));
-    let args = names(rt.alloc(), &["echo", "a"])?;
-    assert_eq!(rt;
-        read_order(&message(generic::MKPEER, args)),
-        Err(Errno::INVAL)
-    );
-    let args = Vec::new(rt.alloc());
-    assert_eq!(rt;
-        read_order(&message(generic::TEXT_STATUS, args)),
-        Err(Errno::OPNOTSUPP)
-    );
+    let rows: [(u32, &[&str], Result<Order, Errno>); 3] = [
+        (generic::MKPEER, &["echo", "a", "b"], Ok(order)),
+        (generic::MKPEER, &["echo", "a"], Err(Errno::INVAL)),
+        (generic::TEXT_STATUS, &[], Err(Errno::OPNOTSUPP)),
+    ];
+    for (number, words, want) in rows {
+        let args = names(rt.alloc(), words)?;
+        assert_eq!(rt; read_order(&message(number, args)), want);
+    }
     Ok(())
 }
 
-// a bridge br0 with the number 4, whose link0 leads to the lower of em0 with the number 2
+// A node with a hook.
+fn node(name: &[u8], kind: Kind, id: u32) -> Result<NodeInfo, Fail> {
+    Ok(NodeInfo {
+        name: Some(Name::read(name)?),
+        kind: Some(kind),
+        id: NodeId(id),
+        hooks: 1,
+    })
+}
+
+// Whether an answer has so many bytes, and these from the place on.
+fn has_bytes(answer: &[u8], len: usize, at: usize, bytes: &[u8]) -> bool {
+    answer.len() == len && answer.get(at..).is_some_and(|rest| rest.starts_with(bytes))
+}
+
+// A bridge br0 with the number 4, whose link0 leads to the lower of em0 with the number 2.
 #[test]
-fn answers_are_laid_out(rt: HostRuntime) -> Result<(), Fail> {
-    let node = NodeInfo {
-        name: Some(Name::read(b"br0")?),
-        kind: Some(Kind::Bridge),
-        id: NodeId(4),
-        hooks: 1,
-    };
-    let peer = NodeInfo {
-        name: Some(Name::read(b"em0")?),
-        kind: Some(Kind::Ether),
-        id: NodeId(2),
-        hooks: 1,
-    };
+fn answers_about_a_node_are_laid_out(rt: HostRuntime) -> Result<(), Fail> {
+    let bridge = node(b"br0", Kind::Bridge, 4)?;
+    let info = node_info(rt.alloc(), &bridge)?;
+    assert!(rt; has_bytes(&info, 72, 32, b"bridge\0\0"));
+    assert!(rt; has_bytes(&info, 72, 64, &[4, 0, 0, 0, 1, 0, 0, 0]));
     let link = LinkInfo {
         ourhook: Name::read(b"link0")?,
         peerhook: Name::read(b"lower")?,
-        peer,
+        peer: node(b"em0", Kind::Ether, 2)?,
     };
-    let info = node_info(rt.alloc(), &node)?;
-    assert_eq!(rt; info.len(), 72);
-    assert_eq!(rt; &info[32..40], b"bridge\0\0".as_slice());
-    assert_eq!(rt; &info[64..], [4, 0, 0, 0, 1, 0, 0, 0].as_slice());
-    let hooks = hook_list(rt.alloc(), &node, &[link])?;
-    assert_eq!(rt; hooks.len(), 208);
-    assert_eq!(rt; &hooks[104..110], b"lower\0".as_slice());
-    let nodes = name_list(rt.alloc(), &[peer, node])?;
-    assert_eq!(rt; nodes.len(), 148);
-    assert_eq!(rt; &nodes[..8], b"\x02\0\0\0em0\0".as_slice());
+    let hooks = hook_list(rt.alloc(), &bridge, &[link])?;
+    assert!(rt; has_bytes(&hooks, 208, 104, b"lower\0"));
+    Ok(())
+}
+
+// The same two nodes, and two types.
+#[test]
+fn lists_are_laid_out(rt: HostRuntime) -> Result<(), Fail> {
+    let nodes = [
+        node(b"em0", Kind::Ether, 2)?,
+        node(b"br0", Kind::Bridge, 4)?,
+    ];
+    let names = name_list(rt.alloc(), &nodes)?;
+    assert!(rt; has_bytes(&names, 148, 0, b"\x02\0\0\0em0\0"));
     let types = type_list(rt.alloc(), &[(Kind::Hub, 0), (Kind::Socket, 1)])?;
-    assert_eq!(rt; &types[..8], b"\x02\0\0\0hub\0".as_slice());
-    assert_eq!(rt; &types[72..], [1, 0, 0, 0].as_slice());
+    assert!(rt; has_bytes(&types, 76, 0, b"\x02\0\0\0hub\0"));
+    assert!(rt; has_bytes(&types, 76, 72, &[1, 0, 0, 0]));
     Ok(())
 }

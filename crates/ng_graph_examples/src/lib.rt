@@ -7,3 +7,5 @@ mod boxes;
 mod examples;
 #[cfg(test)]
 mod graph_at_rest;
+#[cfg(test)]
+mod steps;

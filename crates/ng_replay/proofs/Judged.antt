@@ -18,7 +18,7 @@ use Rattle.ng_run.specs.Run.{MayRun, setting_of}
 use Rattle.ng_words.specs.Lists as words
 use Rattle.ng_words.specs.declared.port.PortWord.{PortWord}
 use Rattle.ng_words.specs.declared.words.ReplayWords.{ReplayWords}
-use Rattle.ng_runner.proofs.Cores.{same_different}
+use Rattle.ng_run.proofs.Cores.{same_different}
 use Rattle.ng_replay.specs.Call.{run_of}
 
 module _ (kinds : List Kind) (w : ReplayWords) (inputs : List Input) where

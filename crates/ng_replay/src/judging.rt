@@ -5,7 +5,7 @@ ghost use Rattle.ng_judge.specs.declared.verdict.Verdict.TheVariants.{Yes};
 ghost use Rattle.ng_machine.specs.Laws.{world_after};
 ghost use Rattle.ng_replay.specs.Call.{kinds_of, run_of};
 ghost use Rattle.ng_run.specs.Run.{MayRun, setting_of};
-ghost use Rattle.ng_runner.specs.Stocked.{IsStocked};
+ghost use Rattle.ng_run.specs.Stocked.{IsStocked};
 ghost use Rattle.ng_seats.specs.CoreStory.{story};
 ghost use Rattle.ng_story.specs.Story.{world_of};
 

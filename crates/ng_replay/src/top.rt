@@ -10,7 +10,7 @@ ghost use Rattle.ng_replay.specs.Exactly.{Accepts, FaultComes, Judges, LeavesPre
 ghost use Rattle.ng_replay.specs.Parts.{AllRead};
 ghost use Rattle.ng_replay.specs.Said.{InForm};
 ghost use Rattle.ng_run.specs.Parts.{counting, outside, storing};
-ghost use Rattle.ng_runner.specs.Stocked.{IsStocked};
+ghost use Rattle.ng_run.specs.Stocked.{IsStocked};
 ghost use Rattle.ng_words.specs.Replay.{replay_words_of};
 
 use crate::fault::ended_by;

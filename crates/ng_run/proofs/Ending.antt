@@ -42,23 +42,6 @@ module _ (kinds : List Kind) (w : Words) (o : Outside) (found : Found) (is : IsF
   })
 
   module _ (fine : first_fault o.old.files (steps_in w.source found) ≡ None) (inputs : List Input) (inputs_are : inputs ≡ inputs_in found) where
-    -- in it
-    pub memory_cuts : Same o.old o.now → (events journal : List Event) → IsJournal (setting_of kinds w inputs) events → journal ≡ events
-        → EndsWith kinds w o 71 journal (Some NoMemory)
-    memory_cuts same events journal part e = record {
-      found = found;
-      is_found = is;
-      ends = inr (inl (record {
-        passed = fine;
-        part =
-            subst (λ (l : List Event). IsJournal (setting_in kinds w found) l) (sym e)
-            (subst (λ (l : List Input). IsJournal (setting_of kinds w l) events) inputs_are part);
-        same = same;
-        cause = refl;
-      }));
-      status_is = refl;
-    }
-
     module _ (events journal : List Event) (world : World) (ran : IsRun (setting_of kinds w inputs) w.workers events)
         (world_is : world ≡ world_after (setting_of kinds w inputs) events) (e : journal ≡ events)
         (commands : List Command) (commands_are : commands ≡ map (λ timed. timed.1) (commands_of found.script))

@@ -10,3 +10,5 @@ pub mod Running
 pub mod Ending
 pub mod Apart
 pub mod Exactly
+pub mod Cores
+pub mod Runs

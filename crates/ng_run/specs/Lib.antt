@@ -7,3 +7,4 @@ pub mod Ends
 pub mod Parts
 pub mod Exactly
 pub mod Line
+pub mod Stocked

@@ -5,8 +5,9 @@
 mod ended;
 mod found;
 mod line;
-mod machine;
 mod made;
+mod making;
+mod names;
 mod parse;
 mod read;
 mod text;
@@ -16,7 +17,6 @@ mod write;
 pub use ended::{Ended, Fault, Which};
 pub use found::{ReadIn, ReadScript};
 pub use line::{capture_words, fault_line, fault_words, script_words};
-pub use machine::Machine;
 pub use read::{read_files, read_ports, read_script_file};
 pub use text::is_stopped;
 pub use top::{cuts_of, ngrun};

@@ -2,16 +2,19 @@
 ghost use Rattle.std.specs.Prelude.{◌≡◌, ◌≤◌, List, length, map, IfOk};
 ghost use Rattle.std.specs.List.{list_any};
 ghost use Rattle.ng_machine.specs.declared.told.Told.{Told};
+ghost use Rattle.ng_seats.specs.CoreStory.{story};
+ghost use Rattle.ng_story.specs.Story.{world_of};
 ghost use Rattle.ng_pcap.specs.declared.capture.Capture.{Capture};
 ghost use Rattle.ngctl_print.specs.Prints.{Prints};
 ghost use Rattle.ngctl_text.specs.Text.{world_text, reports};
 ghost use Rattle.ngctl_text.specs.Told.{ArePrintable};
 ghost use Rattle.ng_run.specs.Writes.{is_stop, is_error, shown_by};
 
-use crate::Machine;
 use ng_base::{Event, NoMemory};
 use ng_machine::{Command, Told};
+use ng_node::Node;
 use ng_outside::Sink;
+use ng_seats::Core;
 use ng_words::PortWord;
 use ngctl_print::PrintStop;
 use ngctl_text::{PortReport, Summary, print_text};
@@ -50,22 +53,22 @@ pub(crate) fn has_error(told: &[Told]) -> bool
 }
 
 // The lines of the ports, each with the place where its capture was cut.
-fn reports<M: Machine>(
+fn reports<B: Node>(
     alloc: Global,
-    machine: &M,
+    core: &Core<B>,
     ports: &[PortWord],
     cuts: &[Option<u64>],
 ) -> Result<Vec<PortReport>, NoMemory>
     requires cuts { length ports.now ≡ length cuts.now }
     requires few { length ports.now ≤ 64 }
-    requires there { length ports.now ≤ length (M.world machine.now).ports }
-    ensures { IfOk result (λ made. made.items ≡ reports (shown_by ports.now cuts.now) (M.world machine.now).ports) }
+    requires there { length ports.now ≤ length (world_of (story core.now)).ports }
+    ensures { IfOk result (λ made. made.items ≡ reports (shown_by ports.now cuts.now) (world_of (story core.now)).ports) }
 {
     let mut made = Vec::new(alloc);
     for i in 0..ports.len() {
         made.push(PortReport {
             name: ports[i].name,
-            totals: machine.port(i as u32),
+            totals: core.port(i as u32),
             cut: cuts[i],
         })?;
     }
@@ -76,30 +79,30 @@ fn reports<M: Machine>(
 ///
 /// # Errors
 /// `Fault` where the sink failed, `NoMemory` where memory ran out. A prefix of the text was put then.
-pub(crate) fn print_run<M: Machine, O: Sink>(
+pub(crate) fn print_run<B: Node, O: Sink>(
     alloc: Global,
-    machine: &M,
+    core: &Core<B>,
     commands: &[Command],
     ports: &[PortWord],
     cuts: &[Option<u64>],
     of: u64,
     out: &mut O,
 ) -> Result<(), PrintStop>
-    requires printable { ArePrintable commands.now (M.world machine.now).told }
+    requires printable { ArePrintable commands.now (world_of (story core.now)).told }
     requires cuts { length ports.now ≡ length cuts.now }
     requires few { length ports.now ≤ 64 }
-    requires there { length ports.now ≤ length (M.world machine.now).ports }
+    requires there { length ports.now ≤ length (world_of (story core.now)).ports }
     ensures { Prints (O.contents out.old) (O.contents out.new) (O.faults out.old) (O.faults out.new) result
-        (world_text commands.now (shown_by ports.now cuts.now) of (M.world machine.now) (list_any is_stop (M.events machine.now))) }
+        (world_text commands.now (shown_by ports.now cuts.now) of (world_of (story core.now)) (list_any is_stop core.now.journal)) }
 {
-    let Ok(lines) = reports(alloc, machine, ports, cuts) else {
+    let Ok(lines) = reports(alloc, core, ports, cuts) else {
         return Err(PrintStop::NoMemory);
     };
     let summary = Summary {
-        totals: machine.totals(),
-        fed: machine.fed(),
+        totals: core.totals(),
+        fed: core.fed(),
         of,
-        stopped: is_stopped(machine.journal()),
+        stopped: is_stopped(core.journal()),
     };
-    print_text(alloc, commands, machine.told(), &summary, &lines, out)
+    print_text(alloc, commands, core.told(), &summary, &lines, out)
 }

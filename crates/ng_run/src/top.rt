@@ -5,30 +5,39 @@ ghost use Rattle.ng_printable.specs.Printable.{ToldIsPrintable, LeftIsWritable};
 ghost use Rattle.ng_printable.specs.Scripts.{InputsAreOfScript, InputsAreFit, InputsAreTimed};
 ghost use Rattle.ngctl_script.specs.Held.{AreCommands};
 ghost use Rattle.ng_run.specs.Writes.{is_stop, is_error};
+ghost use Rattle.ng_machine.specs.State.{kind_of};
 ghost use Rattle.ng_outside.specs.Contents.{Contents};
+ghost use Rattle.ng_seats.specs.CoreStory.{story};
+ghost use Rattle.ng_story.specs.Story.{world_of};
 ghost use Rattle.ng_words.specs.Run.{words_of, ports_from};
 ghost use Rattle.ng_run.specs.declared.ended.Fault.TheVariants.{NoMemory as no_memory};
 ghost use Rattle.ng_run.specs.Said.{InForm};
+ghost use Rattle.ng_run.specs.Stocked.{IsStocked};
 ghost use Rattle.ng_run.specs.Exactly.{UsageComes, FaultComes, Completes, ReadsOnly, WritesOnly, LeavesPrefix, RefusesQuietly, DoesAll, KeepsOthers, RunsPlainly, WritesEach};
 ghost use Rattle.ng_run.specs.Ends.{EndsBy, EndsWith, fault_status};
 ghost use Rattle.ng_run.specs.Parts.{storing, outside, counting, AllPass};
 
 use crate::found::{ReadIn, ReadScript};
 use crate::made::read_made;
+use crate::making::run_core;
 use crate::read::read_files;
 use crate::text::{has_error, is_stopped};
 use crate::write::write_all;
-use crate::{Ended, Fault, Machine};
+use crate::{Ended, Fault};
 use ng_base::NoMemory;
 use ng_feed::inputs;
-use ng_outside::{Files, Sink};
+use ng_node::Node;
+use ng_outside::{Files, Gate, Sink};
 use ng_pcap::Capture;
 use ng_printable::{
     inputs_are_fit, inputs_are_of_script, inputs_are_timed, left_is_writable, told_is_printable,
 };
+use ng_seats::Core;
 use ng_words::{PortWord, Source, Words, read_words};
 use ngctl_script::Script;
 use std::alloc::Global;
+use std::sync::Wait;
+use std::thread::Threads;
 
 fn fault_status(fault: Fault) -> u8
     ensures { result ≡ fault_status fault }
@@ -92,12 +101,12 @@ fn know_run()
 }
 
 // 0, 1 where an errno was told, 2 where the run stopped at its limit.
-fn run_status<M: Machine>(machine: &M) -> u8
-    ensures { result ≡ (if list_any is_stop (M.events machine.now) then 2 else if list_any is_error (M.world machine.now).told then 1 else 0) }
+fn run_status<B: Node>(core: &Core<B>) -> u8
+    ensures { result ≡ (if list_any is_stop core.now.journal then 2 else if list_any is_error (world_of (story core.now)).told then 1 else 0) }
 {
-    if is_stopped(machine.journal()) {
+    if is_stopped(core.journal()) {
         2
-    } else if has_error(machine.told()) {
+    } else if has_error(core.told()) {
         1
     } else {
         0
@@ -105,19 +114,22 @@ fn run_status<M: Machine>(machine: &M) -> u8
 }
 
 // Runs what was read, and writes what comes of it.
-fn run_read<M: Machine + Drop, F: Files, O: Sink>(
+fn run_read<R: Threads + Wait + Sync, B: Node, F: Files, O: Sink, G: Gate + Sync>(
+    rt: &R,
     alloc: Global,
-    mut machine: M,
     words: &Words,
     ports: &[PortWord],
     read: ReadIn,
     files: &mut F,
     out: &mut O,
+    stock: Vec<B>,
+    gate: &G,
 ) -> Ended
+    requires stocked { IsStocked B.state stock.items }
     requires form { InForm words.now }
     requires ports { ports.now ≡ ports_from words.now.source }
     requires read { AllPass (F.contents files.old) words.now.source read.script.script read.script.commands.items read.captures.items }
-    ensures { EndsWith (M.kinds machine) words.now (outside (storing (O.contents out.old) (F.contents files.old)) (storing (O.contents out.new) (F.contents files.new))
+    ensures { EndsWith (map (λ b. kind_of (B.state b)) stock.items) words.now (outside (storing (O.contents out.old) (F.contents files.old)) (storing (O.contents out.new) (F.contents files.new))
         (counting (O.faults out.old) (F.faults files.old)) (counting (O.faults out.new) (F.faults files.new))) result.status result.journal.items result.fault }
 {
     let ReadIn { script, captures } = read;
@@ -130,18 +142,14 @@ fn run_read<M: Machine + Drop, F: Files, O: Sink>(
         return refused(alloc, Fault::NoMemory);
     };
     let of = inputs.len() as u64;
-    let Ok(()) = machine.run(alloc, words, inputs) else {
-        return Ended {
-            status: 71,
-            journal: machine.into_journal(),
-            fault: Some(Fault::NoMemory),
-        };
+    let Ok(core) = run_core(rt, alloc, words, stock, inputs, gate) else {
+        return refused(alloc, Fault::NoMemory);
     };
     know_run();
-    let status = run_status(&machine);
+    let status = run_status(&core);
     let wrote = write_all(
         alloc,
-        &machine,
+        &core,
         &commands,
         ports,
         &cuts,
@@ -153,56 +161,72 @@ fn run_read<M: Machine + Drop, F: Files, O: Sink>(
     match wrote {
         Ok(()) => Ended {
             status,
-            journal: machine.into_journal(),
+            journal: core.into_journal(),
             fault: None,
         },
         Err(fault) => Ended {
             status: fault_status(fault),
-            journal: machine.into_journal(),
+            journal: core.into_journal(),
             fault: Some(fault),
         },
     }
 }
 
 // What a call with these words does.
-fn run_words<M: Machine + Drop, F: Files, O: Sink>(
+fn run_words<R: Threads + Wait + Sync, B: Node, F: Files, O: Sink, G: Gate + Sync>(
+    rt: &R,
     alloc: Global,
-    machine: M,
     words: &Words,
     files: &mut F,
     out: &mut O,
+    stock: Vec<B>,
+    gate: &G,
 ) -> Ended
-    requires { InForm words.now }
-    ensures { EndsWith (M.kinds machine) words.now (outside (storing (O.contents out.old) (F.contents files.old)) (storing (O.contents out.new) (F.contents files.new))
+    requires stocked { IsStocked B.state stock.items }
+    requires form { InForm words.now }
+    ensures { EndsWith (map (λ b. kind_of (B.state b)) stock.items) words.now (outside (storing (O.contents out.old) (F.contents files.old)) (storing (O.contents out.new) (F.contents files.new))
         (counting (O.faults out.old) (F.faults files.old)) (counting (O.faults out.new) (F.faults files.new))) result.status result.journal.items result.fault }
 {
     match &words.source {
         Source::FromFiles { script, ports } => {
             match read_files(alloc, script, ports.as_slice(), files) {
-                Ok(read) => run_read(alloc, machine, words, ports.as_slice(), read, files, out),
+                Ok(read) => run_read(
+                    rt,
+                    alloc,
+                    words,
+                    ports.as_slice(),
+                    read,
+                    files,
+                    out,
+                    stock,
+                    gate,
+                ),
                 Err(fault) => refused(alloc, fault),
             }
         }
         Source::Made(packets) => match read_made(alloc, *packets) {
-            Ok((read, ports)) => run_read(alloc, machine, words, &ports, read, files, out),
+            Ok((read, ports)) => run_read(rt, alloc, words, &ports, read, files, out, stock, gate),
             Err(_) => refused(alloc, Fault::NoMemory),
         },
     }
 }
 
 // The call, and its end.
-fn run_call<M: Machine + Drop, F: Files, O: Sink>(
+fn run_call<R: Threads + Wait + Sync, B: Node, F: Files, O: Sink, G: Gate + Sync>(
+    rt: &R,
     alloc: Global,
     words: &[String],
     files: &mut F,
     out: &mut O,
-    machine: M,
+    stock: Vec<B>,
+    gate: &G,
 ) -> Ended
-    ensures { EndsBy (M.kinds machine) (words_of (map (λ word. string_bytes word) words.now)) (outside (storing (O.contents out.old) (F.contents files.old)) (storing (O.contents out.new) (F.contents files.new))
+    requires stocked { IsStocked B.state stock.items }
+    ensures { EndsBy (map (λ b. kind_of (B.state b)) stock.items) (words_of (map (λ word. string_bytes word) words.now)) (outside (storing (O.contents out.old) (F.contents files.old)) (storing (O.contents out.new) (F.contents files.new))
         (counting (O.faults out.old) (F.faults files.old)) (counting (O.faults out.new) (F.faults files.new))) result.status result.journal.items result.fault }
 {
     match read_words(alloc, words) {
-        Ok(Some(said)) => run_words(alloc, machine, &said, files, out),
+        Ok(Some(said)) => run_words(rt, alloc, &said, files, out, stock, gate),
         Ok(None) => refused(alloc, Fault::Usage),
         Err(_) => refused(alloc, Fault::NoMemory),
     }
@@ -214,37 +238,41 @@ fn run_call<M: Machine + Drop, F: Files, O: Sink>(
 /// The words are `[-w WORKERS] [-b BUDGET] [-n NAME] [-j JOURNAL] SCRIPT [PORT=IN,OUT ..]`, or `-g N` in place of SCRIPT
 /// and the ports. Refusals come in this order: the words (64); the script, not read (66), too big or not in form (65);
 /// each capture, not read (66), too many bytes, not in form, too many packets (65). Then come the run and the writes
-/// (74). 71 may stand in place of any. `machine` runs.
-pub fn ngrun<M: Machine + Drop, F: Files, O: Sink>(
+/// (74). 71 may stand in place of any. `stock` are the blank nodes: a socket and 64 ethers among them. `rt` starts a thread for
+/// each worker, and each item that a worker takes passes `gate` before the work on it. Waits for the threads.
+pub fn ngrun<R: Threads + Wait + Sync, B: Node, F: Files, O: Sink, G: Gate + Sync>(
+    rt: &R,
     alloc: Global,
     words: &[String],
     files: &mut F,
     out: &mut O,
-    machine: M,
+    stock: Vec<B>,
+    gate: &G,
 ) -> Ended
-    ensures ends { EndsBy (M.kinds machine) (words_of (map (λ word. string_bytes word) words.now)) (outside (storing (O.contents out.old) (F.contents files.old)) (storing (O.contents out.new) (F.contents files.new))
+    requires stocked { IsStocked B.state stock.items }
+    ensures ends { EndsBy (map (λ b. kind_of (B.state b)) stock.items) (words_of (map (λ word. string_bytes word) words.now)) (outside (storing (O.contents out.old) (F.contents files.old)) (storing (O.contents out.new) (F.contents files.new))
         (counting (O.faults out.old) (F.faults files.old)) (counting (O.faults out.new) (F.faults files.new))) result.status result.journal.items result.fault }
     ensures usage { UsageComes (words_of (map (λ word. string_bytes word) words.now)) result.fault }
-    ensures comes { FaultComes (M.kinds machine) (words_of (map (λ word. string_bytes word) words.now)) (outside (storing (O.contents out.old) (F.contents files.old)) (storing (O.contents out.new) (F.contents files.new))
+    ensures comes { FaultComes (map (λ b. kind_of (B.state b)) stock.items) (words_of (map (λ word. string_bytes word) words.now)) (outside (storing (O.contents out.old) (F.contents files.old)) (storing (O.contents out.new) (F.contents files.new))
         (counting (O.faults out.old) (F.faults files.old)) (counting (O.faults out.new) (F.faults files.new))) result.fault }
-    ensures complete { Completes (M.kinds machine) (words_of (map (λ word. string_bytes word) words.now)) (outside (storing (O.contents out.old) (F.contents files.old)) (storing (O.contents out.new) (F.contents files.new))
+    ensures complete { Completes (map (λ b. kind_of (B.state b)) stock.items) (words_of (map (λ word. string_bytes word) words.now)) (outside (storing (O.contents out.old) (F.contents files.old)) (storing (O.contents out.new) (F.contents files.new))
         (counting (O.faults out.old) (F.faults files.old)) (counting (O.faults out.new) (F.faults files.new))) result.journal.items result.fault }
-    ensures plain { RunsPlainly (M.kinds machine) (words_of (map (λ word. string_bytes word) words.now)) (outside (storing (O.contents out.old) (F.contents files.old)) (storing (O.contents out.new) (F.contents files.new))
+    ensures plain { RunsPlainly (map (λ b. kind_of (B.state b)) stock.items) (words_of (map (λ word. string_bytes word) words.now)) (outside (storing (O.contents out.old) (F.contents files.old)) (storing (O.contents out.new) (F.contents files.new))
         (counting (O.faults out.old) (F.faults files.old)) (counting (O.faults out.new) (F.faults files.new))) result.journal.items result.fault }
-    ensures reads { ReadsOnly (M.kinds machine) (words_of (map (λ word. string_bytes word) words.now)) (outside (storing (O.contents out.old) (F.contents files.old)) (storing (O.contents out.new) (F.contents files.new))
+    ensures reads { ReadsOnly (map (λ b. kind_of (B.state b)) stock.items) (words_of (map (λ word. string_bytes word) words.now)) (outside (storing (O.contents out.old) (F.contents files.old)) (storing (O.contents out.new) (F.contents files.new))
         (counting (O.faults out.old) (F.faults files.old)) (counting (O.faults out.new) (F.faults files.new))) result.fault }
-    ensures writes { WritesOnly (M.kinds machine) (words_of (map (λ word. string_bytes word) words.now)) (outside (storing (O.contents out.old) (F.contents files.old)) (storing (O.contents out.new) (F.contents files.new))
+    ensures writes { WritesOnly (map (λ b. kind_of (B.state b)) stock.items) (words_of (map (λ word. string_bytes word) words.now)) (outside (storing (O.contents out.old) (F.contents files.old)) (storing (O.contents out.new) (F.contents files.new))
         (counting (O.faults out.old) (F.faults files.old)) (counting (O.faults out.new) (F.faults files.new))) result.journal.items result.fault }
-    ensures prefix { LeavesPrefix (M.kinds machine) (words_of (map (λ word. string_bytes word) words.now)) (outside (storing (O.contents out.old) (F.contents files.old)) (storing (O.contents out.new) (F.contents files.new))
+    ensures prefix { LeavesPrefix (map (λ b. kind_of (B.state b)) stock.items) (words_of (map (λ word. string_bytes word) words.now)) (outside (storing (O.contents out.old) (F.contents files.old)) (storing (O.contents out.new) (F.contents files.new))
         (counting (O.faults out.old) (F.faults files.old)) (counting (O.faults out.new) (F.faults files.new))) result.journal.items result.fault }
     ensures quiet { RefusesQuietly (outside (storing (O.contents out.old) (F.contents files.old)) (storing (O.contents out.new) (F.contents files.new))
         (counting (O.faults out.old) (F.faults files.old)) (counting (O.faults out.new) (F.faults files.new))) result.journal.items result.fault }
-    ensures done { DoesAll (M.kinds machine) (words_of (map (λ word. string_bytes word) words.now)) (outside (storing (O.contents out.old) (F.contents files.old)) (storing (O.contents out.new) (F.contents files.new))
+    ensures done { DoesAll (map (λ b. kind_of (B.state b)) stock.items) (words_of (map (λ word. string_bytes word) words.now)) (outside (storing (O.contents out.old) (F.contents files.old)) (storing (O.contents out.new) (F.contents files.new))
         (counting (O.faults out.old) (F.faults files.old)) (counting (O.faults out.new) (F.faults files.new))) result.journal.items result.fault }
-    ensures others { KeepsOthers (M.kinds machine) (words_of (map (λ word. string_bytes word) words.now)) (outside (storing (O.contents out.old) (F.contents files.old)) (storing (O.contents out.new) (F.contents files.new))
+    ensures others { KeepsOthers (map (λ b. kind_of (B.state b)) stock.items) (words_of (map (λ word. string_bytes word) words.now)) (outside (storing (O.contents out.old) (F.contents files.old)) (storing (O.contents out.new) (F.contents files.new))
         (counting (O.faults out.old) (F.faults files.old)) (counting (O.faults out.new) (F.faults files.new))) result.journal.items result.fault }
-    ensures each { WritesEach (M.kinds machine) (words_of (map (λ word. string_bytes word) words.now)) (outside (storing (O.contents out.old) (F.contents files.old)) (storing (O.contents out.new) (F.contents files.new))
+    ensures each { WritesEach (map (λ b. kind_of (B.state b)) stock.items) (words_of (map (λ word. string_bytes word) words.now)) (outside (storing (O.contents out.old) (F.contents files.old)) (storing (O.contents out.new) (F.contents files.new))
         (counting (O.faults out.old) (F.faults files.old)) (counting (O.faults out.new) (F.faults files.new))) result.journal.items result.fault }
 {
-    run_call(alloc, words, files, out, machine)
+    run_call(rt, alloc, words, files, out, stock, gate)
 }

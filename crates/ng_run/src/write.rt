@@ -5,6 +5,8 @@ ghost use Rattle.ng_machine.specs.Words.{Every};
 ghost use Rattle.ng_machine.specs.World.{Port};
 ghost use Rattle.ng_journal.specs.Journal.{journal_text};
 ghost use Rattle.ng_ends.specs.Writes.{WritesAll, StopsAt, StopsFor};
+ghost use Rattle.ng_seats.specs.CoreStory.{story};
+ghost use Rattle.ng_story.specs.Story.{world_of};
 ghost use Rattle.ngctl_text.specs.Captures.{AreWritable};
 ghost use Rattle.ngctl_text.specs.Text.{world_text};
 ghost use Rattle.ngctl_text.specs.Told.{ArePrintable};
@@ -13,31 +15,33 @@ ghost use Rattle.ng_run.specs.Writes.{is_stop, shown_by, out_writes, journal_wri
 ghost use Rattle.ng_run.specs.Parts.{of_files, storing, outside, counting};
 
 use crate::text::print_run;
-use crate::{Fault, Machine, Which};
+use crate::{Fault, Which};
 use ng_base::{Event, NoMemory};
 use ng_journal::put_journal;
 use ng_machine::Command;
+use ng_node::Node;
 use ng_outside::{Files, Sink, write_file};
+use ng_seats::Core;
 use ng_words::{FileName, PortWord};
 use ngctl_print::PrintStop;
 use ngctl_text::capture_text;
 use std::alloc::Global;
 
 // The captures that leave by the ports from one on, those whose OUT has a name.
-fn write_outs<M: Machine, F: Files>(
+fn write_outs<B: Node, F: Files>(
     alloc: Global,
-    machine: &M,
+    core: &Core<B>,
     port: u32,
     ports: &[PortWord],
     files: &mut F,
 ) -> Result<(), Fault>
     requires few { port + length ports.now ≤ 64 }
-    requires there { port + length ports.now ≤ length (M.world machine.now).ports }
-    requires writable { Every (λ (p : Port). AreWritable p.leaving) (M.world machine.now).ports }
-    ensures ok { OnOk result ((sink : Option (List ℕ)) → WritesAll (out_writes port ports.now (drop port (M.world machine.now).ports))
+    requires there { port + length ports.now ≤ length (world_of (story core.now)).ports }
+    requires writable { Every (λ (p : Port). AreWritable p.leaving) (world_of (story core.now)).ports }
+    ensures ok { OnOk result ((sink : Option (List ℕ)) → WritesAll (out_writes port ports.now (drop port (world_of (story core.now)).ports))
         (storing sink (F.contents files.old)) (storing sink (F.contents files.new))) }
     ensures err { IfErr result (λ fault. (sink : Option (List ℕ)) → StopsAt (StopsFor no_memory (of_files (F.contents files.old) (F.contents files.new) (F.faults files.old) (F.faults files.new)) fault)
-        (out_writes port ports.now (drop port (M.world machine.now).ports)) (storing sink (F.contents files.old)) (storing sink (F.contents files.new))) }
+        (out_writes port ports.now (drop port (world_of (story core.now)).ports)) (storing sink (F.contents files.old)) (storing sink (F.contents files.new))) }
     ensures counts { (other : List ℕ) → F.faults files.old other ≤ F.faults files.new other }
 {
     let Some((word, others)) = ports.split_first() else {
@@ -45,18 +49,18 @@ fn write_outs<M: Machine, F: Files>(
     };
     let name = word.out_file.as_str();
     if name.is_empty() {
-        return match write_outs(alloc, machine, port + 1, others, files) {
+        return match write_outs(alloc, core, port + 1, others, files) {
             Ok(()) => Ok(()),
             Err(fault) => Err(fault),
         };
     }
-    let Ok(bytes) = capture_text(alloc, machine.leaving(port)) else {
+    let Ok(bytes) = capture_text(alloc, core.leaving(port)) else {
         return Err(Fault::NoMemory);
     };
     if let Err(_) = write_file(files, name, &bytes) {
         return Err(Fault::WriteFault(Which::Leaving(port)));
     }
-    match write_outs(alloc, machine, port + 1, others, files) {
+    match write_outs(alloc, core, port + 1, others, files) {
         Ok(()) => Ok(()),
         Err(fault) => Err(fault),
     }
@@ -99,9 +103,9 @@ fn write_journal<F: Files>(
 ///
 /// # Errors
 /// `WriteFault` where a write failed, `NoMemory` where memory ran out; a prefix was written then.
-pub(crate) fn write_all<M: Machine, F: Files, O: Sink>(
+pub(crate) fn write_all<B: Node, F: Files, O: Sink>(
     alloc: Global,
-    machine: &M,
+    core: &Core<B>,
     commands: &[Command],
     ports: &[PortWord],
     cuts: &[Option<u64>],
@@ -110,31 +114,31 @@ pub(crate) fn write_all<M: Machine, F: Files, O: Sink>(
     files: &mut F,
     out: &mut O,
 ) -> Result<(), Fault>
-    requires printable { ArePrintable commands.now (M.world machine.now).told }
-    requires writable { Every (λ (p : Port). AreWritable p.leaving) (M.world machine.now).ports }
+    requires printable { ArePrintable commands.now (world_of (story core.now)).told }
+    requires writable { Every (λ (p : Port). AreWritable p.leaving) (world_of (story core.now)).ports }
     requires cuts { length ports.now ≡ length cuts.now }
     requires few { length ports.now ≤ 64 }
-    requires there { length ports.now ≤ length (M.world machine.now).ports }
+    requires there { length ports.now ≤ length (world_of (story core.now)).ports }
     ensures ok { OnOk result (WritesAll
-        (text_write (world_text commands.now (shown_by ports.now cuts.now) of (M.world machine.now) (list_any is_stop (M.events machine.now)))
-        ∷ (out_writes 0 ports.now (M.world machine.now).ports ++ journal_writes journal_name.now (M.events machine.now)))
+        (text_write (world_text commands.now (shown_by ports.now cuts.now) of (world_of (story core.now)) (list_any is_stop core.now.journal))
+        ∷ (out_writes 0 ports.now (world_of (story core.now)).ports ++ journal_writes journal_name.now core.now.journal))
         (storing (O.contents out.old) (F.contents files.old)) (storing (O.contents out.new) (F.contents files.new))) }
     ensures err { IfErr result (λ fault. StopsAt (StopsFor no_memory (outside (storing (O.contents out.old) (F.contents files.old)) (storing (O.contents out.new) (F.contents files.new))
         (counting (O.faults out.old) (F.faults files.old)) (counting (O.faults out.new) (F.faults files.new))) fault)
-        (text_write (world_text commands.now (shown_by ports.now cuts.now) of (M.world machine.now) (list_any is_stop (M.events machine.now)))
-        ∷ (out_writes 0 ports.now (M.world machine.now).ports ++ journal_writes journal_name.now (M.events machine.now)))
+        (text_write (world_text commands.now (shown_by ports.now cuts.now) of (world_of (story core.now)) (list_any is_stop core.now.journal))
+        ∷ (out_writes 0 ports.now (world_of (story core.now)).ports ++ journal_writes journal_name.now core.now.journal))
         (storing (O.contents out.old) (F.contents files.old)) (storing (O.contents out.new) (F.contents files.new))) }
     ensures counts { (other : List ℕ) → F.faults files.old other ≤ F.faults files.new other }
 {
-    match print_run(alloc, machine, commands, ports, cuts, of, out) {
+    match print_run(alloc, core, commands, ports, cuts, of, out) {
         Ok(()) => {}
         Err(PrintStop::Fault) => return Err(Fault::WriteFault(Which::Sink)),
         Err(PrintStop::NoMemory) => return Err(Fault::NoMemory),
     }
-    if let Err(fault) = write_outs(alloc, machine, 0, ports, files) {
+    if let Err(fault) = write_outs(alloc, core, 0, ports, files) {
         return Err(fault);
     }
-    match write_journal(alloc, journal_name, machine.journal(), files) {
+    match write_journal(alloc, journal_name, core.journal(), files) {
         Ok(()) => Ok(()),
         Err(fault) => Err(fault),
     }

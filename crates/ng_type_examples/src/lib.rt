@@ -2,21 +2,25 @@
 #![tactic(auto)]
 
 #[cfg(test)]
+mod bench;
+#[cfg(test)]
 mod bpf;
 #[cfg(test)]
 mod bridge;
 #[cfg(test)]
 mod edges;
 #[cfg(test)]
-mod filters;
+mod fields;
 #[cfg(test)]
-mod messages;
+mod filters;
 #[cfg(test)]
 mod one2many;
 #[cfg(test)]
 mod patch;
 #[cfg(test)]
 mod simple;
+#[cfg(test)]
+mod steps;
 #[cfg(test)]
 mod stock;
 #[cfg(test)]

@@ -1,133 +1,136 @@
 // What nodes of each type do with one packet and with a message.
-ghost use Rattle.std.specs.Prelude.{◌≡◌, ◌∷◌, [], true, None, IfOk, OnOk};
-ghost use Rattle.ng_base.specs.Names.{has_name};
+ghost use Rattle.std.specs.Prelude.{◌≡◌, [], IfOk};
 
-use crate::messages::message;
-use ng_base::{Errno, Name, Packet};
-use ng_machine::{Body, Door};
+use crate::bench::try_case;
+use crate::fields::Field::{self, Bytes};
+use crate::steps::Case;
+use crate::steps::Fate::{Out, Refused};
+use crate::steps::Step::{HasPlan, Hook, Lasts, NoHook, Packet, Tell};
+use crate::steps::Way::{Hook as ByHook, Plan as ByPlan};
+use ng_base::Errno;
 use ng_node::Node;
-use ng_plan::eval;
 use ng_simple_types::{blank_echo, blank_hole, blank_hub, blank_split};
 use std::alloc::Global;
 use std::test::Fail;
 
-/// The cookie of the type's messages.
-const COOKIE: u32 = 0x4e47_0001;
+/// The cookies of the types' messages.
+const HUB: u32 = 0x4e47_0001;
 
-// A packet that comes by a hook.
-fn frame(alloc: Global, hook: &Name) -> Result<Body, Fail>
-    ensures { IfOk result (λ body. body ≡ Body.Frame (Door.Hook hook.now) None (1 ∷ 2 ∷ 3 ∷ [])) }
-{
-    Ok(Body::Frame {
-        door: Door::Hook(*hook),
-        link: None,
-        packet: Packet::new(alloc, &[1, 2, 3])?,
-    })
-}
+const HOLE: u32 = 0x4e47_0002;
 
-// The hooks that a packet by a hook goes out of as it came.
-fn sends<N: Node>(node: &mut N, alloc: Global, hook: &Name) -> Result<Vec<Name>, Fail>
-    requires { has_name (N.state node.old).hooks hook.now ≡ true }
-    ensures { OnOk result ((N.state node.new).hooks ≡ (N.state node.old).hooks) }
-{
-    let outcome = node.write(alloc, &frame(alloc, hook)?)?;
-    let mut others = Vec::new(alloc);
-    for (other, packet) in outcome.sends.into_vec() {
-        if packet.bytes() != [1, 2, 3].as_slice() {
-            Err(Errno::MSGSIZE)?;
-        }
-        others.push(other)?;
-    }
-    Ok(others)
-}
+const ECHO: u32 = 0x4e47_0003;
+
+const SPLIT: u32 = 0x4e47_0005;
+
+/// A packet.
+const DATA: Field = Bytes(&[1, 2, 3]);
+
+const HUB_CASES: &[Case] = &[
+    Case {
+        shows: "a hub sends out of the others",
+        steps: &[
+            Hook(b"a"),
+            Hook(b"x"),
+            HasPlan(true),
+            Packet(ByHook(b"a"), &[DATA], Out(&[b"x"])),
+        ],
+    },
+    // setpersistent has the number 1 and no arguments.
+    Case {
+        shows: "a hub stays after setpersistent",
+        steps: &[
+            Tell(1, &[Bytes(&[0])], Errno::INVAL),
+            Lasts(false),
+            Tell(1, &[], Errno::NONE),
+            Lasts(true),
+        ],
+    },
+];
 
 #[test]
 fn a_hub_sends_out_of_the_others(rt: HostRuntime) -> Result<(), Fail> {
     let alloc = rt.alloc();
-    let a = Name::read(b"a")?;
-    let x = Name::read(b"x")?;
-    let mut node = blank_hub(alloc)?;
-    node.newhook(alloc, &a)?;
-    node.newhook(alloc, &x)?;
-    assert!(rt; node.plan(alloc)?.is_some());
-    assert_eq!(rt; sends(&mut node, alloc, &a)?.as_slice(), [x].as_slice());
+    for case in HUB_CASES {
+        try_case(&rt, alloc, HUB, blank_hub(alloc)?, case)?;
+    }
     Ok(())
 }
 
-// setpersistent has the number 1 and no arguments.
-#[test]
-fn a_hub_stays_after_setpersistent(rt: HostRuntime) -> Result<(), Fail> {
-    let alloc = rt.alloc();
-    let mut node = blank_hub(alloc)?;
-    let longer = Body::Msg(message(alloc, COOKIE, 1, &[0])?);
-    assert_eq!(rt; node.write(alloc, &longer)?.errno, Errno::INVAL);
-    assert!(rt; !node.lasting());
-    let right = Body::Msg(message(alloc, COOKIE, 1, &[])?);
-    assert_eq!(rt; node.write(alloc, &right)?.errno, Errno::NONE);
-    assert!(rt; node.lasting());
-    Ok(())
-}
+const ECHO_CASE: Case = Case {
+    shows: "an echo sends back",
+    steps: &[
+        Hook(b"a"),
+        HasPlan(true),
+        Packet(ByHook(b"a"), &[DATA], Out(&[b"a"])),
+    ],
+};
 
 #[test]
 fn an_echo_sends_back(rt: HostRuntime) -> Result<(), Fail> {
     let alloc = rt.alloc();
-    let a = Name::read(b"a")?;
-    let mut node = blank_echo(alloc)?;
-    node.newhook(alloc, &a)?;
-    assert!(rt; node.plan(alloc)?.is_some());
-    assert_eq!(rt; sends(&mut node, alloc, &a)?.as_slice(), [a].as_slice());
-    Ok(())
+    try_case(&rt, alloc, ECHO, blank_echo(alloc)?, &ECHO_CASE)
 }
+
+const HOLE_CASE: Case = Case {
+    shows: "a hole discards",
+    steps: &[
+        Hook(b"z"),
+        HasPlan(true),
+        Packet(ByHook(b"z"), &[DATA], Out(&[])),
+    ],
+};
 
 #[test]
 fn a_hole_discards(rt: HostRuntime) -> Result<(), Fail> {
     let alloc = rt.alloc();
-    let z = Name::read(b"z")?;
-    let mut node = blank_hole(alloc)?;
-    node.newhook(alloc, &z)?;
-    assert!(rt; node.plan(alloc)?.is_some());
-    assert_eq!(rt; sends(&mut node, alloc, &z)?.len(), 0);
-    Ok(())
+    try_case(&rt, alloc, HOLE, blank_hole(alloc)?, &HOLE_CASE)
 }
 
-// in goes out of mixed, mixed goes out of out, and out is refused.
+const SPLIT_CASE: Case = Case {
+    shows: "in goes out of mixed, mixed goes out of out, and out is refused",
+    steps: &[
+        NoHook(b"a"),
+        Hook(b"out"),
+        Hook(b"in"),
+        Hook(b"mixed"),
+        Packet(ByHook(b"in"), &[DATA], Out(&[b"mixed"])),
+        Packet(ByHook(b"mixed"), &[DATA], Out(&[b"out"])),
+        Packet(ByHook(b"out"), &[DATA], Refused(Errno::INVAL)),
+    ],
+};
+
 #[test]
 fn a_split_parts(rt: HostRuntime) -> Result<(), Fail> {
     let alloc = rt.alloc();
-    let to = Name::read(b"in")?;
-    let from = Name::read(b"out")?;
-    let both = Name::read(b"mixed")?;
-    let mut node = blank_split(alloc)?;
-    assert_eq!(rt; node.may(&Name::read(b"a")?), Err(Errno::INVAL));
-    node.newhook(alloc, &from)?;
-    node.newhook(alloc, &to)?;
-    node.newhook(alloc, &both)?;
-    assert_eq!(rt; sends(&mut node, alloc, &to)?.as_slice(), [both].as_slice());
-    assert_eq!(rt;
-        sends(&mut node, alloc, &both)?.as_slice(),
-        [from].as_slice()
-    );
-    let outcome = node.write(alloc, &frame(alloc, &from)?)?;
-    assert_eq!(rt; outcome.errno, Errno::INVAL);
-    Ok(())
+    try_case(&rt, alloc, SPLIT, blank_split(alloc)?, &SPLIT_CASE)
+}
+
+const BOXED_ECHO: Case = Case {
+    shows: "the plan of a box of an echo sends back",
+    steps: &[Packet(ByPlan(b"a"), &[DATA], Out(&[b"a"]))],
+};
+
+const BOXED_HUB: Case = Case {
+    shows: "the plan of a box of a hub without hooks sends nothing",
+    steps: &[Packet(ByPlan(b"a"), &[DATA], Out(&[]))],
+};
+
+fn boxed_echo(alloc: Global) -> Result<Box<dyn Node + Send>, Fail>
+    ensures { IfOk result (λ b. (state b).hooks ≡ []) }
+{
+    Ok(Box::new(alloc, blank_echo(alloc)?)?)
+}
+
+fn boxed_hub(alloc: Global) -> Result<Box<dyn Node + Send>, Fail>
+    ensures { IfOk result (λ b. (state b).hooks ≡ []) }
+{
+    Ok(Box::new(alloc, blank_hub(alloc)?)?)
 }
 
 // A box of a node of any type is a node.
 #[test]
 fn boxes_are_nodes(rt: HostRuntime) -> Result<(), Fail> {
     let alloc = rt.alloc();
-    let door = Door::Hook(Name::read(b"a")?);
-    let packet = Packet::new(alloc, &[1, 2, 3])?;
-    let mut nodes: Vec<Box<dyn Node + Send>> = Vec::new(alloc);
-    nodes.push(Box::new(alloc, blank_echo(alloc)?)?)?;
-    nodes.push(Box::new(alloc, blank_hub(alloc)?)?)?;
-    let mut sent = Vec::new(alloc);
-    for node in &nodes {
-        if let Some(plan) = node.plan(alloc)? {
-            let outcome = eval(alloc, &plan, &door, &packet)?;
-            sent.push(outcome.sends.into_vec().len())?;
-        }
-    }
-    assert_eq!(rt; sent.as_slice(), [1, 0].as_slice());
-    Ok(())
+    try_case(&rt, alloc, ECHO, boxed_echo(alloc)?, &BOXED_ECHO)?;
+    try_case(&rt, alloc, HUB, boxed_hub(alloc)?, &BOXED_HUB)
 }

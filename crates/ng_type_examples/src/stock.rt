@@ -1,6 +1,7 @@
 // There is memory for all the nodes, and a call on one goes to the node of its type.
-use ng_base::Name;
-use ng_node::Node;
+use crate::bench::try_case;
+use crate::steps::Case;
+use crate::steps::Step::{HasPlan, Hook};
 use ng_simple_types::blank_echo;
 use ng_stock::{AnyNode, stock};
 use std::test::Fail;
@@ -12,11 +13,22 @@ fn all_are_made(rt: HostRuntime) -> Result<(), Fail> {
     Ok(())
 }
 
+/// The cookie of an echo, which has no messages.
+const ECHO: u32 = 0x4e47_0003;
+
+const ANY_HOOK: Case = Case {
+    shows: "a call goes to the node",
+    steps: &[Hook(b"any"), HasPlan(true)],
+};
+
 #[test]
 fn calls_go_to_the_node(rt: HostRuntime) -> Result<(), Fail> {
     let alloc = rt.alloc();
-    let mut node = AnyNode::Echo(blank_echo(alloc)?);
-    node.newhook(alloc, &Name::read(b"any")?)?;
-    assert_eq!(rt; node.plan(alloc)?.is_some(), true);
-    Ok(())
+    try_case(
+        &rt,
+        alloc,
+        ECHO,
+        AnyNode::Echo(blank_echo(alloc)?),
+        &ANY_HOOK,
+    )
 }

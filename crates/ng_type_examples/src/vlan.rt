@@ -1,21 +1,18 @@
 // A vlan node on packets and on messages.
-ghost use Rattle.std.specs.Prelude.{◌≡◌, false, true, IfOk, OnOk};
-ghost use Rattle.ng_base.specs.Names.{has_name};
-ghost use Rattle.ng_message.specs.Numbers.{is_reader_number};
-
-use crate::messages::message;
-use ng_base::{Errno, Name, Packet};
-use ng_machine::{Body, Door};
-use ng_message::{put_name, put_u16};
-use ng_node::Node;
-use ng_vlan_type::{VlanNode, blank_vlan};
-use std::alloc::Global;
+use crate::bench::try_case;
+use crate::fields::Field::{self, Bytes, Name, U16, U32};
+use crate::steps::Case;
+use crate::steps::Fate::As;
+use crate::steps::Step::{Ask, Hook, Packet, Tell};
+use crate::steps::Way::Hook as By;
+use ng_base::Errno;
+use ng_vlan_type::blank_vlan;
 use std::test::Fail;
 
 /// The cookie of the type's messages.
 const COOKIE: u32 = 0x4e47_0008;
 
-/// The number of addfilter.
+/// The number of addfilter, whose arguments are a hook, a VLAN, a priority and a bit in a byte.
 const ADD_FILTER: u32 = 1;
 
 /// The number of delfilter.
@@ -27,135 +24,119 @@ const GET_TABLE: u32 = 0x3000_0003;
 /// The number of settagtype.
 const SET_TAG_TYPE: u32 = 4;
 
-// The arguments of addfilter.
-fn filter(alloc: Global, hook: &Name, vlan: u16, pcp: u8, cfi: u8) -> Result<Vec<u8>, Fail> {
-    let mut args = Vec::new(alloc);
-    put_name(&mut args, Some(hook))?;
-    put_u16(&mut args, vlan)?;
-    args.push(pcp)?;
-    args.push(cfi)?;
-    Ok(args)
-}
+/// The two addresses of a frame.
+const ADDRESSES: Field = Bytes(&[1, 2, 3, 4, 5, 6, 7, 8, 9, 10, 11, 12]);
 
-// The error of a message that writes.
-fn tell(node: &mut VlanNode, alloc: Global, number: u32, args: &[u8]) -> Result<Errno, Fail>
-    requires { is_reader_number number ≡ false }
-    ensures { OnOk result (node.new.hooks ≡ node.old.hooks) }
-{
-    let body = Body::Msg(message(alloc, COOKIE, number, args)?);
-    Ok(node.write(alloc, &body)?.errno)
-}
+/// The type of IP.
+const IP: Field = Bytes(&[8, 0]);
 
-// What gettable is answered.
-fn table(node: &VlanNode, alloc: Global) -> Result<Vec<u8>, Fail> {
-    let outcome = node.answer(alloc, &message(alloc, COOKIE, GET_TABLE, &[])?)?;
-    Ok(outcome.answer.map_or(Vec::new(alloc), |bytes| bytes.0))
-}
+const CASES: &[Case] = &[
+    Case {
+        shows: "a frame of VLAN 5 loses its tag, and a frame by the filter's hook gets one",
+        steps: &[
+            Hook(b"downstream"),
+            Hook(b"v5"),
+            Tell(
+                ADD_FILTER,
+                &[Name(b"v5"), U16(5), Bytes(&[0, 0])],
+                Errno::NONE,
+            ),
+            Packet(
+                By(b"downstream"),
+                &[ADDRESSES, Bytes(&[0x81, 0, 0x20, 5]), IP],
+                As(b"v5", &[ADDRESSES, IP]),
+            ),
+            Packet(
+                By(b"v5"),
+                &[ADDRESSES, IP],
+                As(b"downstream", &[ADDRESSES, Bytes(&[0x81, 0, 0, 5]), IP]),
+            ),
+        ],
+    },
+    Case {
+        shows: "the type of tags is set to that of service tags, which have a priority",
+        steps: &[
+            Hook(b"downstream"),
+            Hook(b"v5"),
+            Tell(SET_TAG_TYPE, &[U32(0x88a8)], Errno::NONE),
+            Tell(
+                ADD_FILTER,
+                &[Name(b"v5"), U16(5), Bytes(&[3, 0])],
+                Errno::NONE,
+            ),
+            Packet(
+                By(b"v5"),
+                &[ADDRESSES, IP],
+                As(
+                    b"downstream",
+                    &[ADDRESSES, Bytes(&[0x88, 0xa8, 0x60, 5]), IP],
+                ),
+            ),
+            Ask(
+                GET_TABLE,
+                &[],
+                &[U32(1), Name(b"v5"), U16(5), Bytes(&[3, 0])],
+            ),
+            Tell(SET_TAG_TYPE, &[U32(0x9100)], Errno::INVAL),
+        ],
+    },
+    Case {
+        shows: "filters are refused",
+        steps: &[
+            Hook(b"v5"),
+            Hook(b"v6"),
+            Tell(
+                ADD_FILTER,
+                &[Name(b"v5"), U16(5), Bytes(&[7, 1])],
+                Errno::NONE,
+            ),
+            Tell(
+                ADD_FILTER,
+                &[Name(b"v6"), U16(4_096), Bytes(&[0, 0])],
+                Errno::INVAL,
+            ),
+            Tell(
+                ADD_FILTER,
+                &[Name(b"v6"), U16(6), Bytes(&[8, 0])],
+                Errno::INVAL,
+            ),
+            Tell(
+                ADD_FILTER,
+                &[Name(b"v6"), U16(6), Bytes(&[0, 2])],
+                Errno::INVAL,
+            ),
+            Tell(
+                ADD_FILTER,
+                &[Name(b"nomatch"), U16(6), Bytes(&[0, 0])],
+                Errno::INVAL,
+            ),
+            Tell(
+                ADD_FILTER,
+                &[Name(b"v7"), U16(6), Bytes(&[0, 0])],
+                Errno::NOENT,
+            ),
+            Tell(
+                ADD_FILTER,
+                &[Name(b"v5"), U16(6), Bytes(&[0, 0])],
+                Errno::EXIST,
+            ),
+            Tell(
+                ADD_FILTER,
+                &[Name(b"v6"), U16(5), Bytes(&[0, 0])],
+                Errno::EXIST,
+            ),
+            Tell(DELETE_FILTER, &[Name(b"v6")], Errno::NOENT),
+            Tell(DELETE_FILTER, &[Name(b"v5")], Errno::NONE),
+            Ask(GET_TABLE, &[], &[U32(0)]),
+        ],
+    },
+];
 
-// The hook that a packet by a hook goes out of, and its bytes there.
-fn sent(
-    node: &mut VlanNode,
-    alloc: Global,
-    hook: &Name,
-    bytes: &[u8],
-) -> Result<(Name, Vec<u8>), Fail>
-    requires { has_name node.old.hooks hook.now ≡ true }
-    ensures { OnOk result (node.new.hooks ≡ node.old.hooks) }
-{
-    let body = Body::Frame {
-        door: Door::Hook(*hook),
-        link: None,
-        packet: Packet::new(alloc, bytes)?,
-    };
-    let mut sends = node.write(alloc, &body)?.sends.into_vec();
-    let Some((other, packet)) = sends.pop() else {
-        return Err(Errno::NOTCONN)?;
-    };
-    Ok((other, Vec::from_slice(alloc, packet.bytes())?))
-}
-
-// A frame of VLAN 5 goes out without its tag, and a frame by the filter's hook gets a tag.
 #[test]
-fn frames_are_parted_and_tagged(rt: HostRuntime) -> Result<(), Fail> {
+fn a_vlan_parts_and_tags_frames(rt: HostRuntime) -> Result<(), Fail> {
     let alloc = rt.alloc();
-    let downstream = Name::read(b"downstream")?;
-    let hook = Name::read(b"v5")?;
-    let mut node = blank_vlan(alloc)?;
-    node.newhook(alloc, &downstream)?;
-    node.newhook(alloc, &hook)?;
-    let args = filter(alloc, &hook, 5, 0, 0)?;
-    assert_eq!(rt; tell(&mut node, alloc, ADD_FILTER, &args)?, Errno::NONE);
-    let plain = [1, 2, 3, 4, 5, 6, 7, 8, 9, 10, 11, 12, 8, 0];
-    let high = [
-        1, 2, 3, 4, 5, 6, 7, 8, 9, 10, 11, 12, 0x81, 0, 0x20, 5, 8, 0,
-    ];
-    let low = [1, 2, 3, 4, 5, 6, 7, 8, 9, 10, 11, 12, 0x81, 0, 0, 5, 8, 0];
-    let (other, bytes) = sent(&mut node, alloc, &downstream, &high)?;
-    assert_eq!(rt; (other, bytes.as_slice()), (hook, plain.as_slice()));
-    let (other, bytes) = sent(&mut node, alloc, &hook, &plain)?;
-    assert_eq!(rt; (other, bytes.as_slice()), (downstream, low.as_slice()));
-    Ok(())
-}
-
-// Service tags, with a priority.
-#[test]
-fn the_type_of_tags_is_set(rt: HostRuntime) -> Result<(), Fail> {
-    let alloc = rt.alloc();
-    let downstream = Name::read(b"downstream")?;
-    let hook = Name::read(b"v5")?;
-    let mut node = blank_vlan(alloc)?;
-    node.newhook(alloc, &downstream)?;
-    node.newhook(alloc, &hook)?;
-    assert_eq!(rt;
-        tell(&mut node, alloc, SET_TAG_TYPE, &[0xa8, 0x88, 0, 0])?,
-        Errno::NONE
-    );
-    let args = filter(alloc, &hook, 5, 3, 0)?;
-    assert_eq!(rt; tell(&mut node, alloc, ADD_FILTER, &args)?, Errno::NONE);
-    let plain = [1, 2, 3, 4, 5, 6, 7, 8, 9, 10, 11, 12, 8, 0];
-    let tagged = [
-        1, 2, 3, 4, 5, 6, 7, 8, 9, 10, 11, 12, 0x88, 0xa8, 0x60, 5, 8, 0,
-    ];
-    let (other, bytes) = sent(&mut node, alloc, &hook, &plain)?;
-    assert_eq!(rt; (other, bytes.as_slice()), (downstream, tagged.as_slice()));
-    let told = table(&node, alloc)?;
-    assert_eq!(rt; told.get(4..), Some(args.as_slice()));
-    assert_eq!(rt;
-        tell(&mut node, alloc, SET_TAG_TYPE, &[0, 0x91, 0, 0])?,
-        Errno::INVAL
-    );
-    Ok(())
-}
-
-// Each refusal of addfilter and delfilter, after one filter was added.
-#[test]
-fn filters_are_refused(rt: HostRuntime) -> Result<(), Fail> {
-    let alloc = rt.alloc();
-    let hook = Name::read(b"v5")?;
-    let other = Name::read(b"v6")?;
-    let absent = Name::read(b"v7")?;
-    let mut node = blank_vlan(alloc)?;
-    node.newhook(alloc, &hook)?;
-    node.newhook(alloc, &other)?;
-    let rows = [
-        (hook, 5, 7, 1, Errno::NONE),
-        (other, 4_096, 0, 0, Errno::INVAL),
-        (other, 6, 8, 0, Errno::INVAL),
-        (other, 6, 0, 2, Errno::INVAL),
-        (Name::read(b"nomatch")?, 6, 0, 0, Errno::INVAL),
-        (absent, 6, 0, 0, Errno::NOENT),
-        (hook, 6, 0, 0, Errno::EXIST),
-        (other, 5, 0, 0, Errno::EXIST),
-    ];
-    for (hook, vlan, pcp, cfi, errno) in rows {
-        let args = filter(alloc, &hook, vlan, pcp, cfi)?;
-        assert_eq!(rt; tell(&mut node, alloc, ADD_FILTER, &args)?, errno);
+    for case in CASES {
+        try_case(&rt, alloc, COOKIE, blank_vlan(alloc)?, case)?;
     }
-    for (hook, errno) in [(other, Errno::NOENT), (hook, Errno::NONE)] {
-        let mut args = Vec::new(alloc);
-        put_name(&mut args, Some(&hook))?;
-        assert_eq!(rt; tell(&mut node, alloc, DELETE_FILTER, &args)?, errno);
-    }
-    assert_eq!(rt; table(&node, alloc)?.as_slice(), [0; 4].as_slice());
     Ok(())
 }

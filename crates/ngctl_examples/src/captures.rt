@@ -101,17 +101,51 @@ fn is_read(
     Ok(())
 }
 
+/// A second, which the files of tcpdump and editcap begin in.
+const SECOND: u64 = 1_700_000_000_000_000_000;
+
+/// The packets of a file of microseconds.
+const OF_MICROS: &[(u64, &[u8])] = &[
+    (SECOND + 123_456_000, &REQUEST),
+    (SECOND + 1_999_999_000, &ECHO),
+];
+
+/// A second and a fraction of nearly all bits, the lowest byte first.
+const LITTLE: &[u8] = &[1, 0, 0, 0, 0xff, 0xff, 0xff, 0xff];
+
+/// A second and a fraction of 1,000,000, the highest byte first.
+const BIG: &[u8] = &[0, 0, 0, 1, 0, 15, 66, 64];
+
+/// The last second and a fraction of 2, the highest byte first.
+const LAST: &[u8] = &[0xff, 0xff, 0xff, 0xff, 0, 0, 0, 2];
+
+/// The lengths of a packet of no bytes.
+const NO_BYTES: &[u8] = &[0; 8];
+
+/// The parts of a file, and the packets that are read of it with their times.
+type Row = (&'static [&'static [u8]], &'static [(u64, &'static [u8])]);
+
+/// Files of other programs, and times in both orders and units.
+const ROWS: &[Row] = &[
+    (&[&TCPDUMP_MICROS], OF_MICROS),
+    (&[&EDITCAP_NANOS], OF_MICROS),
+    (&[&TCPDUMP_NANOS], &[(SECOND + 123_456_789, &REQUEST)]),
+    (&[&LITTLE_MICROS, LITTLE, NO_BYTES], &[(1_999_999_000, &[])]),
+    (&[&LITTLE_NANOS, LITTLE, NO_BYTES], &[(1_999_999_999, &[])]),
+    (&[&BIG_MICROS, BIG, NO_BYTES], &[(1_999_999_000, &[])]),
+    (&[&BIG_NANOS, BIG, NO_BYTES], &[(1_001_000_000, &[])]),
+    (
+        &[&BIG_NANOS, LAST, NO_BYTES],
+        &[(4_294_967_295_000_000_002, &[])],
+    ),
+];
+
 #[test]
-fn files_of_other_programs_are_read(rt: HostRuntime) -> Result<(), Fail> {
-    let second = 1_700_000_000_000_000_000;
-    let micros: [(u64, &[u8]); 2] = [
-        (second + 123_456_000, &REQUEST),
-        (second + 1_999_999_000, &ECHO),
-    ];
-    is_read(&rt, rt.alloc(), &[&TCPDUMP_MICROS], &micros)?;
-    is_read(&rt, rt.alloc(), &[&EDITCAP_NANOS], &micros)?;
-    let nanos: [(u64, &[u8]); 1] = [(second + 123_456_789, &REQUEST)];
-    is_read(&rt, rt.alloc(), &[&TCPDUMP_NANOS], &nanos)
+fn files_are_read(rt: HostRuntime) -> Result<(), Fail> {
+    for (parts, packets) in ROWS {
+        is_read(&rt, rt.alloc(), parts, packets)?;
+    }
+    Ok(())
 }
 
 #[test]
@@ -123,30 +157,6 @@ fn a_file_is_written_as_tcpdump_writes_it(rt: HostRuntime) -> Result<(), Fail> {
     write_packet(rt.alloc(), &mut out, stamp, &packet)?;
     assert_eq!(rt; out.as_slice(), TCPDUMP_NANOS.as_slice());
     Ok(())
-}
-
-/// A packet of no bytes, whose head has these seconds and this fraction, is of this time.
-fn is_timed(
-    rt: &impl Abort,
-    alloc: Global,
-    head: &[u8],
-    time: &[u8],
-    stamp: u64,
-) -> Result<(), Fail> {
-    is_read(rt, alloc, &[head, time, &[0; 8]], &[(stamp, &[])])
-}
-
-#[test]
-fn times_are_read_in_both_orders_and_units(rt: HostRuntime) -> Result<(), Fail> {
-    let alloc = rt.alloc();
-    let little = [1, 0, 0, 0, 0xff, 0xff, 0xff, 0xff];
-    is_timed(&rt, alloc, &LITTLE_MICROS, &little, 1_999_999_000)?;
-    is_timed(&rt, alloc, &LITTLE_NANOS, &little, 1_999_999_999)?;
-    let big = [0, 0, 0, 1, 0, 15, 66, 64];
-    is_timed(&rt, alloc, &BIG_MICROS, &big, 1_999_999_000)?;
-    is_timed(&rt, alloc, &BIG_NANOS, &big, 1_001_000_000)?;
-    let last = [0xff, 0xff, 0xff, 0xff, 0, 0, 0, 2];
-    is_timed(&rt, alloc, &BIG_NANOS, &last, 4_294_967_295_000_000_002)
 }
 
 #[test]

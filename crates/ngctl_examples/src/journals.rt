@@ -1,4 +1,5 @@
 // Journals, as they are written and as they are read.
+use crate::same::holds;
 use ng_base::{Event, ItemId};
 use ng_journal::{JournalFault, put_journal, read_journal};
 use std::test::Fail;
@@ -73,13 +74,9 @@ const BAD: [(&str, u64); 25] = [
 ];
 
 #[test]
-fn a_file_that_is_no_journal_is_refused(rt: HostRuntime) -> Result<(), Fail> {
-    let alloc = rt.alloc();
+fn a_file_that_is_no_journal_is_refused(rt: HostRuntime) {
     for (text, line) in BAD {
-        match read_journal(alloc, text.as_bytes()) {
-            Ok(_) => assert!(rt; false, "{text}"),
-            Err(fault) => assert_eq!(rt; fault, JournalFault::BadLine(line), "{text}"),
-        }
+        let fault = read_journal(rt.alloc(), text.as_bytes()).err();
+        holds(&rt, fault == Some(JournalFault::BadLine(line)), text);
     }
-    Ok(())
 }

@@ -14,6 +14,8 @@ mod lines;
 #[cfg(test)]
 mod made;
 #[cfg(test)]
+mod same;
+#[cfg(test)]
 mod scripts;
 #[cfg(test)]
 mod text;

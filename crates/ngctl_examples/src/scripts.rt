@@ -2,10 +2,12 @@
 mod commands;
 mod scripts;
 
+use crate::same::same;
 use ng_base::Bytes;
 use ng_machine::What;
 use ngctl_script::{When, read_script};
 use std::alloc::{AllocError, Global};
+use std::process::Abort;
 use std::test::Fail;
 
 /// One more word of a text, behind a `|`.
@@ -149,4 +151,12 @@ fn asked(alloc: Global, text: &[u8]) -> Result<Vec<u8>, Fail> {
         [(When::First, command)] if command.number == 1 => Ok(shown(alloc, &command.what)?),
         _ => Err(Fail::from("one command is wanted")),
     }
+}
+
+/// Each text of one command asks for these words behind `|`.
+fn check_asked(rt: &impl Abort, alloc: Global, rows: &[(&str, &str)]) -> Result<(), Fail> {
+    for (text, words) in rows {
+        same(rt, &asked(alloc, text.as_bytes())?, words.as_bytes(), text);
+    }
+    Ok(())
 }

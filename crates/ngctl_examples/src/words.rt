@@ -1,4 +1,5 @@
 // Words of command lines, as they are typed.
+use crate::same::holds;
 use ng_words::{Source, read_forecast_words, read_replay_words, read_words};
 use std::alloc::Global;
 use std::test::Fail;
@@ -10,6 +11,24 @@ fn words_in(alloc: Global, line: &str) -> Result<Vec<String>, Fail> {
         words.push(String::from_str(alloc, word)?)?;
     }
     Ok(words)
+}
+
+// What a line is the words of.
+#[derive(Clone, Copy)]
+enum Form {
+    Run,
+    Replay,
+    Forecast,
+}
+
+// Whether the line is read.
+fn is_read(alloc: Global, form: Form, line: &str) -> Result<bool, Fail> {
+    let words = words_in(alloc, line)?;
+    match form {
+        Form::Run => Ok(read_words(alloc, &words)?.is_some()),
+        Form::Replay => Ok(read_replay_words(alloc, &words)?.is_some()),
+        Form::Forecast => Ok(read_forecast_words(alloc, &words)?.is_some()),
+    }
 }
 
 // Lines that no run, replay and forecast has.
@@ -70,36 +89,6 @@ const REFUSED_FORECASTS: [&str; 6] = [
     "1 ngctl -s",
 ];
 
-#[test]
-fn runs_are_refused(rt: HostRuntime) -> Result<(), Fail> {
-    for line in REFUSED_RUNS {
-        let words = words_in(rt.alloc(), line)?;
-        assert!(rt; read_words(rt.alloc(), &words)?.is_none(), "{line}");
-    }
-    Ok(())
-}
-
-#[test]
-fn replays_are_refused(rt: HostRuntime) -> Result<(), Fail> {
-    for line in REFUSED_REPLAYS {
-        let words = words_in(rt.alloc(), line)?;
-        assert!(rt; read_replay_words(rt.alloc(), &words)?.is_none(), "{line}");
-    }
-    Ok(())
-}
-
-#[test]
-fn forecasts_are_refused(rt: HostRuntime) -> Result<(), Fail> {
-    for line in REFUSED_FORECASTS {
-        let words = words_in(rt.alloc(), line)?;
-        assert!(rt;
-            read_forecast_words(rt.alloc(), &words)?.is_none(),
-            "{line}"
-        );
-    }
-    Ok(())
-}
-
 // Lines that runs have.
 const RUNS: [&str; 9] = [
     "s",
@@ -114,10 +103,17 @@ const RUNS: [&str; 9] = [
 ];
 
 #[test]
-fn runs_are_read(rt: HostRuntime) -> Result<(), Fail> {
-    for line in RUNS {
-        let words = words_in(rt.alloc(), line)?;
-        assert!(rt; read_words(rt.alloc(), &words)?.is_some(), "{line}");
+fn lines_are_read_or_refused(rt: HostRuntime) -> Result<(), Fail> {
+    let tables: [(Form, bool, &[&str]); 4] = [
+        (Form::Run, false, &REFUSED_RUNS),
+        (Form::Replay, false, &REFUSED_REPLAYS),
+        (Form::Forecast, false, &REFUSED_FORECASTS),
+        (Form::Run, true, &RUNS),
+    ];
+    for (form, is, lines) in tables {
+        for line in lines {
+            holds(&rt, is_read(rt.alloc(), form, line)? == is, line);
+        }
     }
     Ok(())
 }
@@ -182,9 +178,9 @@ fn many_ports(alloc: Global, ports: u32) -> Result<Vec<String>, Fail> {
 
 #[test]
 fn ports_are_64_at_the_most(rt: HostRuntime) -> Result<(), Fail> {
-    let words = many_ports(rt.alloc(), 64)?;
-    assert!(rt; read_words(rt.alloc(), &words)?.is_some());
-    let words = many_ports(rt.alloc(), 65)?;
-    assert!(rt; read_words(rt.alloc(), &words)?.is_none());
+    for (ports, is) in [(64, true), (65, false)] {
+        let words = many_ports(rt.alloc(), ports)?;
+        assert_eq!(rt; read_words(rt.alloc(), &words)?.is_some(), is);
+    }
     Ok(())
 }

@@ -1,38 +1,53 @@
 // The whole program over any files and sinks.
-ghost use Rattle.std.specs.Prelude.{map, string_bytes};
+ghost use Rattle.std.specs.Prelude.{◌≡◌, map, string_bytes};
 ghost use Rattle.ng_run.specs.Parts.{storing, outside, counting};
-ghost use Rattle.ng_words.specs.Run.{words_of};
 ghost use Rattle.ngrun.specs.Program.{IsProgram};
+ghost use Rattle.ngrun.specs.Top.{status_of};
 
-use crate::run::run;
-use crate::tell::{tell, tell_end};
+use crate::stocked::run_stocked;
+use crate::tell::{OUT_OF_MEMORY_LINE, put, tell_end};
+use crate::top::Ran;
 use ng_base::NoMemory;
-use ng_outside::{Files, Sink};
-use ng_run::Fault;
+use ng_outside::{Files, Gate, Sink};
 use std::alloc::Global;
+use std::sync::Wait;
+use std::thread::Threads;
 
 const OUT_OF_MEMORY: u8 = 71;
 
-/// Runs what the words name, with its text into `out` and the line of a fault into `errors`, and gives the exit status.
-/// The statuses are those of [`ng_run::Ended`].
-pub fn program<F: Files, O: Sink, E: Sink>(
+fn status_of(ran: &Ran) -> u8
+    ensures { result ≡ status_of ran.now }
+{
+    match ran {
+        Ran::Run(ended) => ended.status,
+        Ran::Replay(replayed) => replayed.status,
+        Ran::Forecast(forecast) => forecast.status,
+    }
+}
+
+/// Does what the words ask for, with its text into `out` and the line of a fault into `errors`, and gives the exit status.
+/// The statuses are those of [`ng_run::Ended`], [`ng_replay::Replayed`] and [`ng_forecast::Forecast`]. `rt` starts the threads of the workers of a run, and each item
+/// that these take passes `gate`.
+pub fn program<R: Threads + Wait + Sync, F: Files, O: Sink, E: Sink, G: Gate + Sync>(
+    rt: &R,
     alloc: Global,
     words: &[String],
     files: &mut F,
     out: &mut O,
     errors: &mut E,
+    gate: &G,
 ) -> u8
-    ensures { IsProgram (words_of (map (λ word. string_bytes word) words.now)) (outside (storing (O.contents out.old) (F.contents files.old)) (storing (O.contents out.new) (F.contents files.new))
+    ensures { IsProgram (map (λ word. string_bytes word) words.now) (outside (storing (O.contents out.old) (F.contents files.old)) (storing (O.contents out.new) (F.contents files.new))
         (counting (O.faults out.old) (F.faults files.old)) (counting (O.faults out.new) (F.faults files.new)))
         (record { old = E.contents errors.old; now = E.contents errors.new; before = E.faults errors.old; after = E.faults errors.new }) result }
 {
-    match run(alloc, words, files, out) {
-        Ok(ended) => {
-            tell_end(alloc, ended.fault, words, errors);
-            ended.status
+    match run_stocked(rt, alloc, words, files, out, gate) {
+        Ok(ran) => {
+            tell_end(alloc, &ran, words, errors);
+            status_of(&ran)
         }
         Err(NoMemory) => {
-            tell(alloc, &Fault::NoMemory, words, errors);
+            put(OUT_OF_MEMORY_LINE, errors);
             OUT_OF_MEMORY
         }
     }

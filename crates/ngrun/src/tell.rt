@@ -1,33 +1,96 @@
 // The line of a fault, on standard error.
-ghost use Rattle.std.specs.Prelude.{map, string_bytes};
+ghost use Rattle.std.specs.Prelude.{◌≡◌, ℕ, List, map, string_bytes, IfOk};
+ghost use Rattle.ng_forecast.specs.Line as forecast;
+ghost use Rattle.ng_replay.specs.Line.{replay_line};
+ghost use Rattle.ng_run.specs.Line.{fault_line};
+ghost use Rattle.ng_words.specs.Forecast.{forecast_words_of};
+ghost use Rattle.ng_words.specs.Replay.{replay_words_of};
 ghost use Rattle.ng_words.specs.Run.{words_of};
-ghost use Rattle.ngrun.specs.Program.{TellsFault, Tells};
+ghost use Rattle.ngrun.specs.Program.{Puts, Tells, TellsIf};
+ghost use Rattle.ngrun.specs.Top.{line_of};
 
+use crate::top::{Ran, behind_first};
+use ng_base::NoMemory;
+use ng_forecast::{ForecastFault, forecast_fault_line};
 use ng_outside::{Sink, put_all};
+use ng_replay::{ReplayFault, replay_fault_line};
 use ng_run::{Fault, fault_line};
 use std::alloc::Global;
 
-// What is told where there is no memory for another line.
-const OUT_OF_MEMORY: &[u8] = b"ngrun: out of memory\n";
+/// What is told where memory ran out.
+pub const OUT_OF_MEMORY_LINE: &[u8] = b"ngrun: out of memory\n";
 
-/// Puts the line of a fault of a call with these words. Where there is no memory for it, the line of that
-/// is put. Nobody is told where the sink fails.
-pub fn tell<E: Sink>(alloc: Global, fault: &Fault, words: &[String], errors: &mut E)
-    ensures { TellsFault fault.now (words_of (map (λ word. string_bytes word) words.now)) (record { old = E.contents errors.old; now = E.contents errors.new; before = E.faults errors.old; after = E.faults errors.new }) }
+/// The line of a fault of a run with these words.
+///
+/// # Errors
+/// `NoMemory` where memory ran out, and for nothing else.
+pub fn run_line(alloc: Global, fault: &Fault, words: &[String]) -> Result<Vec<u8>, NoMemory>
+    ensures { IfOk result (λ line. line.items ≡ fault_line fault.now (words_of (map (λ word. string_bytes word) words.now))) }
 {
     let mut line = Vec::new(alloc);
-    let told = match fault_line(alloc, fault, words, &mut line) {
-        Ok(()) => put_all(errors, &line),
-        Err(_) => put_all(errors, OUT_OF_MEMORY),
-    };
+    fault_line(alloc, fault, words, &mut line)?;
+    Ok(line)
+}
+
+// That of a replay with these words behind the first.
+fn replay_line(alloc: Global, fault: &ReplayFault, words: &[String]) -> Result<Vec<u8>, NoMemory>
+    ensures { IfOk result (λ line. line.items ≡ replay_line fault.now (replay_words_of (map (λ word. string_bytes word) words.now))) }
+{
+    let mut line = Vec::new(alloc);
+    replay_fault_line(alloc, fault, words, &mut line)?;
+    Ok(line)
+}
+
+// That of a forecast with these words behind the first.
+fn forecast_line(
+    alloc: Global,
+    fault: &ForecastFault,
+    words: &[String],
+) -> Result<Vec<u8>, NoMemory>
+    ensures { IfOk result (λ line. line.items ≡ forecast.fault_line fault.now (forecast_words_of (map (λ word. string_bytes word) words.now))) }
+{
+    let mut line = Vec::new(alloc);
+    forecast_fault_line(alloc, fault, words, &mut line)?;
+    Ok(line)
+}
+
+/// Puts a line. Nobody is told where the sink fails.
+pub fn put<E: Sink>(line: &[u8], errors: &mut E)
+    ensures { Puts line.now (record { old = E.contents errors.old; now = E.contents errors.new; before = E.faults errors.old; after = E.faults errors.new }) }
+{
+    let told = put_all(errors, line);
     let _ = told;
 }
 
-/// The same for a call that may have ended well: nothing is told then.
-pub fn tell_end<E: Sink>(alloc: Global, fault: Option<Fault>, words: &[String], errors: &mut E)
-    ensures { Tells fault (words_of (map (λ word. string_bytes word) words.now)) (record { old = E.contents errors.old; now = E.contents errors.new; before = E.faults errors.old; after = E.faults errors.new }) }
+/// Puts a line that was made, or that of a want of memory where it could not be made.
+pub fn tell<E: Sink>(made: Result<Vec<u8>, NoMemory>, errors: &mut E)
+    ensures { (line : List ℕ) → IfOk made (λ bytes. bytes.items ≡ line) → Tells line (record { old = E.contents errors.old; now = E.contents errors.new; before = E.faults errors.old; after = E.faults errors.new }) }
 {
-    if let Some(fault) = fault {
-        tell(alloc, &fault, words, errors);
+    match made {
+        Ok(line) => put(&line, errors),
+        Err(NoMemory) => put(OUT_OF_MEMORY_LINE, errors),
+    }
+}
+
+/// Puts the line of the fault of a call with these words that ended so, or nothing where it ended well.
+pub fn tell_end<E: Sink>(alloc: Global, ran: &Ran, words: &[String], errors: &mut E)
+    ensures { TellsIf (line_of (map (λ word. string_bytes word) words.now) ran.now) (record { old = E.contents errors.old; now = E.contents errors.new; before = E.faults errors.old; after = E.faults errors.new }) }
+{
+    match ran {
+        Ran::Run(ended) => {
+            if let Some(fault) = &ended.fault {
+                tell(run_line(alloc, fault, words), errors);
+            }
+        }
+        Ran::Replay(replayed) => {
+            if let Some(fault) = &replayed.fault {
+                tell(replay_line(alloc, fault, behind_first(words)), errors);
+            }
+        }
+        Ran::Forecast(forecast) => {
+            if let Some(fault) = &forecast.fault {
+                tell(forecast_line(alloc, fault, behind_first(words)), errors);
+            }
+        }
     }
 }

@@ -2,9 +2,11 @@
 // written.
 ghost use Rattle.ng_outside.specs.Memory.{NamesDiffer, FitRooms};
 
+mod calls;
 mod captures;
 mod commands;
 mod faults;
+mod gates;
 mod limits;
 mod outputs;
 mod packets;
@@ -14,10 +16,12 @@ mod types;
 
 use crate::program::program;
 use ng_base::NoMemory;
-use ng_outside::{MemFile, MemFiles, MemSink};
+use ng_outside::{MemFile, MemFiles, MemSink, OpenGate};
 use std::alloc::{AllocError, Global};
 use std::process::Abort;
+use std::sync::Wait;
 use std::test::Fail;
+use std::thread::Threads;
 
 const USAGE: &str =
     "ngrun: usage: ngrun [-w WORKERS] [-b BUDGET] [-n NAME] [-j JOURNAL] SCRIPT [PORT=IN,OUT ..]\n";
@@ -128,11 +132,16 @@ fn holds(files: &MemFiles, file: &Held) -> bool {
 }
 
 // Runs the program over these files and compares what comes of it.
-fn check_over(rt: &impl Abort, alloc: Global, run: &Run, files: &mut MemFiles) -> Result<(), Fail> {
+fn check_over(
+    rt: &(impl Abort + Threads + Wait + Sync),
+    alloc: Global,
+    run: &Run,
+    files: &mut MemFiles,
+) -> Result<(), Fail> {
     let words = words_in(alloc, run.words)?;
     let mut out = sink(alloc, 0)?;
     let mut errors = sink(alloc, 0)?;
-    let status = program(alloc, &words, files, &mut out, &mut errors);
+    let status = program(rt, alloc, &words, files, &mut out, &mut errors, &OpenGate);
     assert_eq!(rt; str::from_utf8(errors.bytes())?, run.told, "{}", run.shows);
     assert_eq!(rt; str::from_utf8(out.bytes())?, run.text, "{}", run.shows);
     assert_eq!(rt; status, run.status, "{}", run.shows);
@@ -148,13 +157,17 @@ fn check_over(rt: &impl Abort, alloc: Global, run: &Run, files: &mut MemFiles) -
 }
 
 // The same over the files that the run names.
-fn check(rt: &impl Abort, alloc: Global, run: &Run) -> Result<(), Fail> {
+fn check(rt: &(impl Abort + Threads + Wait + Sync), alloc: Global, run: &Run) -> Result<(), Fail> {
     let mut files = files_of(alloc, run.files, 0)?;
     check_over(rt, alloc, run, &mut files)
 }
 
 // The same with a script alone.
-fn check_script(rt: &impl Abort, alloc: Global, run: &ScriptRun) -> Result<(), Fail> {
+fn check_script(
+    rt: &(impl Abort + Threads + Wait + Sync),
+    alloc: Global,
+    run: &ScriptRun,
+) -> Result<(), Fail> {
     let run = Run {
         shows: run.shows,
         words: "script",
@@ -167,7 +180,11 @@ fn check_script(rt: &impl Abort, alloc: Global, run: &ScriptRun) -> Result<(), F
     check(rt, alloc, &run)
 }
 
-fn check_scripts(rt: &impl Abort, alloc: Global, runs: &[ScriptRun]) -> Result<(), Fail> {
+fn check_scripts(
+    rt: &(impl Abort + Threads + Wait + Sync),
+    alloc: Global,
+    runs: &[ScriptRun],
+) -> Result<(), Fail> {
     for run in runs {
         check_script(rt, alloc, run)?;
     }

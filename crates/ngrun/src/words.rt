@@ -3,7 +3,7 @@ ghost use Rattle.std.specs.Prelude.{◌≡◌, ◌≢◌, drop};
 ghost use Rattle.ng_run.specs.declared.ended.Fault.{Fault};
 ghost use Rattle.ngrun.specs.Program.{IsWordless};
 
-use crate::tell::tell;
+use crate::tell::{run_line, tell};
 use ng_outside::Sink;
 use ng_run::Fault;
 use std::alloc::Global;
@@ -32,11 +32,11 @@ pub fn wordless<E: Sink>(alloc: Global, kind: ErrorKind, errors: &mut E) -> u8
 {
     match kind {
         ErrorKind::OutOfMemory => {
-            tell(alloc, &Fault::NoMemory, &[], errors);
+            tell(run_line(alloc, &Fault::NoMemory, &[]), errors);
             OUT_OF_MEMORY
         }
         _ => {
-            tell(alloc, &Fault::Usage, &[], errors);
+            tell(run_line(alloc, &Fault::Usage, &[]), errors);
             USAGE
         }
     }

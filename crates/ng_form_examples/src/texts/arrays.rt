@@ -1,9 +1,8 @@
 // Arrays of a length that is fixed.
-use super::{MANY_CONFIG, U8, fail, read, return_to};
+use super::{Forms, MANY_CONFIG, U8, check_fault, check_forms, check_return};
 use ng_parse::TextFault;
 use ng_parse::TextFault::{Range, TooMany, Twice, Unexpected, UnknownField};
 use ng_shape::{Field, Shape};
-use std::test::Fail;
 
 const THREE: Shape = Shape::Array(3, &U8);
 
@@ -44,33 +43,33 @@ const NO_ELEMENTS: &[(&[u8], TextFault)] = &[
     (b"1 ]", Unexpected(0)),
 ];
 
-#[test]
-fn arrays(rt: HostRuntime) {
-    read(&rt, rt.alloc(), &THREE, ELEMENTS);
-    fail(&rt, rt.alloc(), &THREE, NO_ELEMENTS);
+/// A configuration whose 64 links are given, and then this.
+macro_rules! sixty_four {
+    ($end:literal) => {
+        concat!(
+            "{ enabledLinks=[ 1 1 1 1 1 1 1 1 1 1 1 1 1 1 1 1 1 1 1 1 1 1 1 1 1 1 1 1 1 1 1 1 ",
+            "1 1 1 1 1 1 1 1 1 1 1 1 1 1 1 1 1 1 1 1 1 1 1 1 1 1 1 1 1 1 1 1 ",
+            $end
+        )
+    };
 }
 
-const SIXTY_FOUR: &[u8] =
-    b"{ enabledLinks=[ 1 1 1 1 1 1 1 1 1 1 1 1 1 1 1 1 1 1 1 1 1 1 1 1 1 1 1 1 1 1 1 1 1 1 1 1 1 1 1 1 1 1 1 1 1 1 1 1 1 1 1 1 1 1 1 1 1 1 1 1 1 1 1 1 ";
+/// What stands behind the last link, and its fault.
+const NO_LINKS: [(&str, TextFault); 5] = [
+    (sixty_four!("1 ] }"), TooMany(145)),
+    (sixty_four!("300 ] }"), Range(145)),
+    (sixty_four!("} }"), Unexpected(145)),
+    (sixty_four!("5=1 ] }"), Twice(145)),
+    (sixty_four!("64=1 ] }"), TooMany(145)),
+];
 
 #[test]
-fn sixty_fifth_link(rt: HostRuntime) -> Result<(), Fail> {
-    for (end, fault) in [
-        (b"1 ] }".as_slice(), TooMany(145)),
-        (b"300 ] }", Range(145)),
-        (b"} }", Unexpected(145)),
-        (b"5=1 ] }", Twice(145)),
-        (b"64=1 ] }", TooMany(145)),
-    ] {
-        let mut text = Vec::from_slice(rt.alloc(), SIXTY_FOUR)?;
-        text.extend_from_slice(end)?;
-        fail(&rt, rt.alloc(), &MANY_CONFIG, &[(text.as_slice(), fault)]);
+fn sixty_fifth_link(rt: HostRuntime) {
+    for (text, fault) in NO_LINKS {
+        check_fault(&rt, rt.alloc(), &MANY_CONFIG, text.as_bytes(), fault);
     }
-    let mut text = Vec::from_slice(rt.alloc(), SIXTY_FOUR)?;
-    text.extend_from_slice(b"] }")?;
-    let last = b"{ enabledLinks=[ 63=255 ] }".as_slice();
-    return_to(&rt, rt.alloc(), &MANY_CONFIG, &[text.as_slice(), last]);
-    Ok(())
+    let all = sixty_four!("] }").as_bytes();
+    check_return(&rt, rt.alloc(), &MANY_CONFIG, all);
 }
 
 /// Structures of 4 bytes.
@@ -109,44 +108,58 @@ const NO_NOTHINGS: &[(&[u8], TextFault)] = &[
     (b"[ x ]", Unexpected(2)),
 ];
 
-/// Arrays, a text that comes back, and one with its fault.
-const OTHERS: &[(Shape, &[u8], &[u8], TextFault)] = &[
-    (
-        Shape::Array(2, &Shape::Str(2)),
-        b"[ 1=\"b\" ]",
-        b"[ \"a\" 5 ]",
-        Unexpected(8),
-    ),
-    (
-        Shape::Array(2, &Shape::Array(2, &U8)),
-        b"[ [ 1 2 ] [ 1=4 ] ]",
-        b"[ [ 1 2 3 ] ]",
-        TooMany(8),
-    ),
-    (
-        Shape::Array(2, &Shape::Ether),
-        b"[ 1=00:11:22:33:44:55 ]",
-        b"[ 0:1 ]",
-        Unexpected(2),
-    ),
-    (
-        Shape::Array(3, &Shape::Int(8)),
-        b"[ -1 2=-128 ]",
-        b"[ 1 -129 ]",
-        Range(4),
-    ),
+const TABLE: &[Forms] = &[
+    Forms {
+        shape: THREE,
+        read: ELEMENTS,
+        fail: NO_ELEMENTS,
+        ..Forms::NONE
+    },
+    Forms {
+        shape: MANY_CONFIG,
+        come_back: &[b"{ enabledLinks=[ 63=255 ] }"],
+        ..Forms::NONE
+    },
+    Forms {
+        shape: PAIRS,
+        read: TWO_PAIRS,
+        fail: NO_PAIRS,
+        come_back: &[b"[ 1={ a=1 b=2 } { b=515 } ]"],
+        ..Forms::NONE
+    },
+    Forms {
+        shape: NOTHINGS,
+        read: &[(b"[ ]", &[]), (b"[ 0= 1= ]", &[])],
+        fail: NO_NOTHINGS,
+        ..Forms::NONE
+    },
+    Forms {
+        shape: Shape::Array(2, &Shape::Str(2)),
+        fail: &[(b"[ \"a\" 5 ]", Unexpected(8))],
+        come_back: &[b"[ 1=\"b\" ]"],
+        ..Forms::NONE
+    },
+    Forms {
+        shape: Shape::Array(2, &Shape::Array(2, &U8)),
+        fail: &[(b"[ [ 1 2 3 ] ]", TooMany(8))],
+        come_back: &[b"[ [ 1 2 ] [ 1=4 ] ]"],
+        ..Forms::NONE
+    },
+    Forms {
+        shape: Shape::Array(2, &Shape::Ether),
+        fail: &[(b"[ 0:1 ]", Unexpected(2))],
+        come_back: &[b"[ 1=00:11:22:33:44:55 ]"],
+        ..Forms::NONE
+    },
+    Forms {
+        shape: Shape::Array(3, &Shape::Int(8)),
+        fail: &[(b"[ 1 -129 ]", Range(4))],
+        come_back: &[b"[ -1 2=-128 ]"],
+        ..Forms::NONE
+    },
 ];
 
 #[test]
-fn elements_of_other_kinds(rt: HostRuntime) {
-    let alloc = rt.alloc();
-    read(&rt, alloc, &PAIRS, TWO_PAIRS);
-    return_to(&rt, alloc, &PAIRS, &[b"[ 1={ a=1 b=2 } { b=515 } ]"]);
-    fail(&rt, alloc, &PAIRS, NO_PAIRS);
-    read(&rt, alloc, &NOTHINGS, &[(b"[ ]", &[]), (b"[ 0= 1= ]", &[])]);
-    fail(&rt, alloc, &NOTHINGS, NO_NOTHINGS);
-    for (shape, text, wrong, fault) in OTHERS {
-        return_to(&rt, alloc, shape, &[*text]);
-        fail(&rt, alloc, shape, &[(*wrong, *fault)]);
-    }
+fn arrays(rt: HostRuntime) {
+    check_forms(&rt, rt.alloc(), TABLE);
 }

@@ -1,5 +1,5 @@
 // Arrays that a field counts.
-use super::{U8, fail, print, read, return_to};
+use super::{Forms, U8, check_forms};
 use ng_parse::TextFault;
 use ng_parse::TextFault::{Range, TooMany, Unexpected};
 use ng_shape::{CountField, Field, Shape};
@@ -43,16 +43,6 @@ const WRONG_COUNTS: &[(&[u8], TextFault)] = &[
     (b"{ n=1 xs=[ 7 8 300 ] }", Range(15)),
 ];
 
-#[test]
-fn counts(rt: HostRuntime) {
-    let alloc = rt.alloc();
-    read(&rt, alloc, &COUNTED, COUNTS);
-    fail(&rt, alloc, &COUNTED, WRONG_COUNTS);
-    return_to(&rt, alloc, &COUNTED, &[b"{ n=2 xs=[ 7 8 ] }", b"{ n=2 }"]);
-    let bytes = [4, 0, 1, 0, 0, 4];
-    print(&rt, alloc, &COUNTED, &bytes, b"{ n=4 xs=[ 1 3=4 ] }");
-}
-
 const HEAD: Shape = Shape::Struct(&[field!("k", U8), field!("n", U8)]);
 
 /// The count stands inside of an earlier structure.
@@ -93,13 +83,30 @@ const TWO_WRONG: &[(&[u8], TextFault)] = &[
     (b"{ ys=[ 1={ n=4 } 0={ n=5 } ] }", Range(13)),
 ];
 
+const TABLE: &[Forms] = &[
+    Forms {
+        shape: COUNTED,
+        read: COUNTS,
+        fail: WRONG_COUNTS,
+        print: &[(&[4, 0, 1, 0, 0, 4], b"{ n=4 xs=[ 1 3=4 ] }")],
+        come_back: &[b"{ n=2 xs=[ 7 8 ] }", b"{ n=2 }"],
+    },
+    Forms {
+        shape: INSIDE,
+        read: INNER_COUNTS,
+        fail: WRONG_INNER_COUNTS,
+        come_back: &[b"{ head={ n=2 } xs=[ 1=3 ] }"],
+        ..Forms::NONE
+    },
+    Forms {
+        shape: TWO,
+        read: &[(b"{ xs=[ 1 ] ys=[ { xs=[ 2 ] } ] }", &[1, 1, 1, 1, 0, 2])],
+        fail: TWO_WRONG,
+        ..Forms::NONE
+    },
+];
+
 #[test]
-fn counts_of_more_than_one_structure(rt: HostRuntime) {
-    let alloc = rt.alloc();
-    read(&rt, alloc, &INSIDE, INNER_COUNTS);
-    return_to(&rt, alloc, &INSIDE, &[b"{ head={ n=2 } xs=[ 1=3 ] }"]);
-    fail(&rt, alloc, &INSIDE, WRONG_INNER_COUNTS);
-    fail(&rt, alloc, &TWO, TWO_WRONG);
-    let text = b"{ xs=[ 1 ] ys=[ { xs=[ 2 ] } ] }".as_slice();
-    read(&rt, alloc, &TWO, &[(text, &[1, 1, 1, 1, 0, 2])]);
+fn counts(rt: HostRuntime) {
+    check_forms(&rt, rt.alloc(), TABLE);
 }

@@ -1,5 +1,5 @@
 // Integers, strings, addresses, and nothing.
-use super::{U8, fail, read};
+use super::{Forms, U8, check_forms};
 use ng_parse::TextFault;
 use ng_parse::TextFault::{Range, Unexpected};
 use ng_shape::Shape;
@@ -43,17 +43,55 @@ const NO_BYTES: &[(&[u8], TextFault)] = &[
     ),
 ];
 
+const INTEGERS: &[Forms] = &[
+    Forms {
+        shape: U8,
+        read: BYTES,
+        fail: NO_BYTES,
+        ..Forms::NONE
+    },
+    Forms {
+        shape: Shape::UInt(64),
+        read: &[(b"18446744073709551615", &[255; 8])],
+        fail: &[(b"18446744073709551616", Range(0))],
+        ..Forms::NONE
+    },
+    Forms {
+        shape: Shape::Hex(32),
+        read: &[(b"42", &[42, 0, 0, 0])],
+        ..Forms::NONE
+    },
+    Forms {
+        shape: Shape::Hex(16),
+        read: &[(b"0xBEef", &[0xef, 0xbe])],
+        ..Forms::NONE
+    },
+    Forms {
+        shape: Shape::Hex(8),
+        fail: &[(b"-1", Unexpected(0))],
+        ..Forms::NONE
+    },
+    Forms {
+        shape: Shape::Int(8),
+        read: SIGNED,
+        fail: NOT_SIGNED,
+        ..Forms::NONE
+    },
+    Forms {
+        shape: Shape::Int(16),
+        read: &[(b"-2", &[0xfe, 0xff])],
+        ..Forms::NONE
+    },
+    Forms {
+        shape: Shape::Int(64),
+        read: &[(b"-9223372036854775808", &[0, 0, 0, 0, 0, 0, 0, 0x80])],
+        ..Forms::NONE
+    },
+];
+
 #[test]
-fn unsigned_integers(rt: HostRuntime) {
-    let alloc = rt.alloc();
-    read(&rt, alloc, &U8, BYTES);
-    fail(&rt, alloc, &U8, NO_BYTES);
-    let all = Shape::UInt(64);
-    read(&rt, alloc, &all, &[(b"18446744073709551615", &[255; 8])]);
-    fail(&rt, alloc, &all, &[(b"18446744073709551616", Range(0))]);
-    read(&rt, alloc, &Shape::Hex(32), &[(b"42", &[42, 0, 0, 0])]);
-    read(&rt, alloc, &Shape::Hex(16), &[(b"0xBEef", &[0xef, 0xbe])]);
-    fail(&rt, alloc, &Shape::Hex(8), &[(b"-1", Unexpected(0))]);
+fn integers(rt: HostRuntime) {
+    check_forms(&rt, rt.alloc(), INTEGERS);
 }
 
 const SIGNED: &[(&[u8], &[u8])] = &[
@@ -73,21 +111,6 @@ const NOT_SIGNED: &[(&[u8], TextFault)] = &[
     (b"-", Unexpected(0)),
     (b"1-", Unexpected(0)),
 ];
-
-#[test]
-fn signed_integers(rt: HostRuntime) {
-    let alloc = rt.alloc();
-    read(&rt, alloc, &Shape::Int(8), SIGNED);
-    fail(&rt, alloc, &Shape::Int(8), NOT_SIGNED);
-    read(&rt, alloc, &Shape::Int(16), &[(b"-2", &[0xfe, 0xff])]);
-    let least: &[u8] = &[0, 0, 0, 0, 0, 0, 0, 0x80];
-    read(
-        &rt,
-        alloc,
-        &Shape::Int(64),
-        &[(b"-9223372036854775808", least)],
-    );
-}
 
 const STRINGS: &[(&[u8], &[u8])] = &[
     (b"\"abc\"", b"abc\0"),
@@ -121,12 +144,6 @@ const NO_STRINGS: &[(&[u8], TextFault)] = &[
     (b"\"a\"b", Unexpected(3)),
 ];
 
-#[test]
-fn strings(rt: HostRuntime) {
-    read(&rt, rt.alloc(), &Shape::Str(4), STRINGS);
-    fail(&rt, rt.alloc(), &Shape::Str(4), NO_STRINGS);
-}
-
 const ADDRESSES: &[(&[u8], &[u8])] = &[
     (b"00:11:22:33:44:55", &[0, 0x11, 0x22, 0x33, 0x44, 0x55]),
     (b"0:1:2:a:B:f", &[0, 1, 2, 10, 11, 15]),
@@ -146,11 +163,28 @@ const NO_ADDRESSES: &[(&[u8], TextFault)] = &[
 
 const NO_TOKEN: &[(&[u8], TextFault)] = &[(b"x", Unexpected(0)), (b" { }", Unexpected(1))];
 
+const OTHERS: &[Forms] = &[
+    Forms {
+        shape: Shape::Str(4),
+        read: STRINGS,
+        fail: NO_STRINGS,
+        ..Forms::NONE
+    },
+    Forms {
+        shape: Shape::Ether,
+        read: ADDRESSES,
+        fail: NO_ADDRESSES,
+        ..Forms::NONE
+    },
+    Forms {
+        shape: Shape::Nothing,
+        read: &[(b"", &[]), (b" \t ", &[])],
+        fail: NO_TOKEN,
+        ..Forms::NONE
+    },
+];
+
 #[test]
-fn addresses_and_nothing(rt: HostRuntime) {
-    let alloc = rt.alloc();
-    read(&rt, alloc, &Shape::Ether, ADDRESSES);
-    fail(&rt, alloc, &Shape::Ether, NO_ADDRESSES);
-    read(&rt, alloc, &Shape::Nothing, &[(b"", &[]), (b" \t ", &[])]);
-    fail(&rt, alloc, &Shape::Nothing, NO_TOKEN);
+fn strings_addresses_and_nothing(rt: HostRuntime) {
+    check_forms(&rt, rt.alloc(), OTHERS);
 }

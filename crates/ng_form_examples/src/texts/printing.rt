@@ -1,9 +1,19 @@
 // The text of bytes.
-use super::{MANY_CONFIG, U8, print};
+use super::{MANY_CONFIG, U8, check_print};
 use ng_parse::to_text;
 use ng_shape::{BytesFault, Field, Shape};
 
 const FOUR: Shape = Shape::Array(4, &U8);
+
+/// A byte, 3 of padding, 4 of an integer, 3 of a string, and 1 of padding at the end.
+const PADDED: Shape = Shape::Struct(&[
+    field!("a", U8),
+    field!("b", Shape::UInt(32)),
+    field!("c", Shape::Str(3)),
+]);
+
+/// Its bytes, with nines that stand for nothing.
+const PADDED_BYTES: [u8; 12] = [1, 9, 9, 9, 2, 0, 0, 0, b'x', 0, b'y', 9];
 
 const ROWS: &[(Shape, &[u8], &[u8])] = &[
     (U8, &[0], b"0"),
@@ -42,29 +52,21 @@ const ROWS: &[(Shape, &[u8], &[u8])] = &[
     (FOUR, &[0, 0, 0, 9], b"[ 3=9 ]"),
     (FOUR, &[0, 1, 0, 1], b"[ 1=1 3=1 ]"),
     (MANY_CONFIG, &[0; 72], b"{ }"),
+    (PADDED, &PADDED_BYTES, b"{ a=1 b=2 c=\"x\" }"),
 ];
 
 #[test]
 fn bytes_are_printed(rt: HostRuntime) {
     for (shape, bytes, text) in ROWS {
-        print(&rt, rt.alloc(), shape, bytes, text);
+        check_print(&rt, rt.alloc(), shape, bytes, text);
     }
 }
 
-/// A byte, 3 of padding, 4 of an integer, 3 of a string, and 1 of padding at the end.
-const PADDED: Shape = Shape::Struct(&[
-    field!("a", U8),
-    field!("b", Shape::UInt(32)),
-    field!("c", Shape::Str(3)),
-]);
-
 #[test]
 fn bytes_are_too_few_or_too_many(rt: HostRuntime) {
-    let bytes = [1, 9, 9, 9, 2, 0, 0, 0, b'x', 0, b'y', 9];
-    print(&rt, rt.alloc(), &PADDED, &bytes, b"{ a=1 b=2 c=\"x\" }");
     for (from, need) in [(0, 1), (1, 4), (4, 8), (8, 11), (11, 12)] {
         for had in from..need {
-            let short = bytes.get(..had).unwrap_or(&bytes);
+            let short = PADDED_BYTES.get(..had).unwrap_or(&PADDED_BYTES);
             assert_eq!(rt;
                 to_text(rt.alloc(), &PADDED, short).err(),
                 Some(BytesFault::Short { need, had })

@@ -1,5 +1,5 @@
 // Structures.
-use super::{MANY_CONFIG, U8, fail, print, read, return_to};
+use super::{Forms, MANY_CONFIG, U8, check_forms};
 use ng_parse::TextFault;
 use ng_parse::TextFault::{Range, Twice, Unexpected, UnknownField};
 use ng_shape::{Field, Shape};
@@ -7,12 +7,26 @@ use std::test::Fail;
 
 const LINKS: &[u8] = b"{ xmitAlg=1 failAlg=1 enabledLinks=[ 1 5=1 ] }";
 
-/// Texts of one configuration.
-const CONFIGS: [&[u8]; 4] = [
-    b"{ failAlg=2 xmitAlg=3 }",
-    b"{failAlg=2 xmitAlg=3}",
-    b" { failAlg = 2 xmitAlg\t=\t3 } ",
-    b"{ enabledLinks=[ ] failAlg=2 xmitAlg=3 }",
+/// Its bytes: 1, 1, and of the links the first and the sixth.
+const LINKS_BYTES: [u8; 72] = [
+    1, 0, 0, 0, 1, 0, 0, 0, 1, 0, 0, 0, 0, 1, 0, 0, 0, 0, 0, 0, 0, 0, 0, 0, 0, 0, 0, 0, 0, 0, 0, 0,
+    0, 0, 0, 0, 0, 0, 0, 0, 0, 0, 0, 0, 0, 0, 0, 0, 0, 0, 0, 0, 0, 0, 0, 0, 0, 0, 0, 0, 0, 0, 0, 0,
+    0, 0, 0, 0, 0, 0, 0, 0,
+];
+
+/// The bytes of `xmitAlg` 3 and `failAlg` 2.
+const CONFIG: [u8; 72] = [
+    3, 0, 0, 0, 2, 0, 0, 0, 0, 0, 0, 0, 0, 0, 0, 0, 0, 0, 0, 0, 0, 0, 0, 0, 0, 0, 0, 0, 0, 0, 0, 0,
+    0, 0, 0, 0, 0, 0, 0, 0, 0, 0, 0, 0, 0, 0, 0, 0, 0, 0, 0, 0, 0, 0, 0, 0, 0, 0, 0, 0, 0, 0, 0, 0,
+    0, 0, 0, 0, 0, 0, 0, 0,
+];
+
+const CONFIGS: &[(&[u8], &[u8])] = &[
+    (LINKS, &LINKS_BYTES),
+    (b"{ failAlg=2 xmitAlg=3 }", &CONFIG),
+    (b"{failAlg=2 xmitAlg=3}", &CONFIG),
+    (b" { failAlg = 2 xmitAlg\t=\t3 } ", &CONFIG),
+    (b"{ enabledLinks=[ ] failAlg=2 xmitAlg=3 }", &CONFIG),
 ];
 
 const NO_CONFIGS: &[(&[u8], TextFault)] = &[
@@ -34,24 +48,6 @@ const NO_CONFIGS: &[(&[u8], TextFault)] = &[
     (b"{ xmitAlg=1b=2 }", Unexpected(10)),
     (b"{ enabledLinks=1 }", Unexpected(15)),
 ];
-
-#[test]
-fn structures(rt: HostRuntime) {
-    let alloc = rt.alloc();
-    let mut bytes = [0; 72];
-    for at in [0, 4, 8, 13] {
-        bytes[at] = 1;
-    }
-    read(&rt, alloc, &MANY_CONFIG, &[(LINKS, bytes.as_slice())]);
-    print(&rt, alloc, &MANY_CONFIG, &bytes, LINKS);
-    let mut bytes = [0; 72];
-    bytes[0] = 3;
-    bytes[4] = 2;
-    for text in CONFIGS {
-        read(&rt, alloc, &MANY_CONFIG, &[(text, bytes.as_slice())]);
-    }
-    fail(&rt, alloc, &MANY_CONFIG, NO_CONFIGS);
-}
 
 /// A byte, and a structure with an integer at a multiple of 4 from its own front and a structure.
 const NESTED: Shape = Shape::Struct(&[
@@ -89,15 +85,33 @@ const NOT_ODD: &[(&[u8], TextFault)] = &[
     (b"{ nil x-1_:=9 }", Unexpected(6)),
 ];
 
+const TABLE: &[Forms] = &[
+    Forms {
+        shape: MANY_CONFIG,
+        read: CONFIGS,
+        fail: NO_CONFIGS,
+        print: &[(&LINKS_BYTES, LINKS)],
+        ..Forms::NONE
+    },
+    Forms {
+        shape: NESTED,
+        read: ALL_NESTED,
+        fail: NOT_NESTED,
+        come_back: &[b"{ }", b"{ b={ d={ e=\"y\" } } }"],
+        ..Forms::NONE
+    },
+    Forms {
+        shape: ODD,
+        read: &[(b"{ nil= x-1_:=9 }", &[9])],
+        fail: NOT_ODD,
+        come_back: &[b"{ x-1_:=9 }"],
+        ..Forms::NONE
+    },
+];
+
 #[test]
-fn nested_structures_and_names(rt: HostRuntime) {
-    let alloc = rt.alloc();
-    read(&rt, alloc, &NESTED, ALL_NESTED);
-    return_to(&rt, alloc, &NESTED, &[b"{ }", b"{ b={ d={ e=\"y\" } } }"]);
-    fail(&rt, alloc, &NESTED, NOT_NESTED);
-    read(&rt, alloc, &ODD, &[(b"{ nil= x-1_:=9 }", &[9])]);
-    return_to(&rt, alloc, &ODD, &[b"{ x-1_:=9 }"]);
-    fail(&rt, alloc, &ODD, NOT_ODD);
+fn structures_and_names(rt: HostRuntime) {
+    check_forms(&rt, rt.alloc(), TABLE);
 }
 
 #[test]

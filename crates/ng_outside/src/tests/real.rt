@@ -4,73 +4,109 @@ use crate::{
     write_file,
 };
 use ng_base::{ItemId, NodeId};
+use std::alloc::Global;
 use std::io::{ErrorKind, Write};
+use std::process::Abort;
 use std::test::Fail;
-use std::{env, fs, io, process};
+use std::{env, fs, io, process, rt};
+
+// The name of a file in the folder for what does not stay, with the number of this process in it.
+fn name_of(rt: &HostRuntime, what: &str) -> Result<String, Fail> {
+    let name = format!(in rt.alloc(); "ng_outside-{what}-{}", process::id(rt.process()))?;
+    let path = env::temp_dir(rt)?.join(rt.alloc(), name.as_str())?;
+    let text = path.as_path().to_str().ok_or("a path")?;
+    Ok(String::from_str(rt.alloc(), text)?)
+}
+
+// How many bytes are read from the place on, where there is room for three.
+fn read_at<F: Files>(files: &mut F, name: &str, at: u64) -> Result<usize, Failed> {
+    files.read(name, at, &mut [0; 3])
+}
+
+// Whether so many bytes are read from each place, one place after another.
+fn reads<F: Files>(files: &mut F, name: &str, rows: &[(u64, Result<usize, Failed>)]) -> bool {
+    for (at, count) in rows {
+        if read_at(files, name, *at) != *count {
+            return false;
+        }
+    }
+    true
+}
 
 #[test]
 fn a_real_file_is_read(rt: HostRuntime) -> Result<(), Fail> {
-    let name = format!(in rt.alloc(); "ng_outside-{}", process::id(rt.process()))?;
-    let path = env::temp_dir(&rt)?.join(rt.alloc(), name.as_str())?;
-    fs::write(&rt, path.as_path(), b"hello".as_slice())?;
+    let name = name_of(&rt, "read")?;
+    fs::write(&rt, name.as_str(), b"hello".as_slice())?;
     let mut files = StdFiles::new(rt.alloc(), &rt);
-    let text = path.as_path().to_str().ok_or("a path")?;
-    let mut into = [0u8; 3];
-    let parts = [
-        files.read(text, 0, &mut into),
-        files.read(text, 3, &mut into),
-        files.read(text, 5, &mut into),
-    ];
-    let whole = read_whole(rt.alloc(), &mut files, text, 5);
-    let too_big = read_whole(rt.alloc(), &mut files, text, 4).err();
-    let begun = files.read(text, 0, &mut into);
-    fs::remove_file(&rt, path.as_path())?;
-    assert_eq!(rt; begun, Ok(3));
-    assert_eq!(rt;
-        files.read(text, 3, &mut into),
-        Ok(2),
-        "the file was still open"
-    );
-    assert_eq!(rt; parts, [Ok(3), Ok(2), Ok(0)]);
+    let parts = reads(&mut files, &name, &[(0, Ok(3)), (3, Ok(2)), (5, Ok(0))]);
+    let whole = read_whole(rt.alloc(), &mut files, &name, 5);
+    let too_big = read_whole(rt.alloc(), &mut files, &name, 4).err();
+    let begun = read_at(&mut files, &name, 0);
+    fs::remove_file(&rt, name.as_str())?;
+    assert!(rt; parts);
     assert_eq!(rt; whole.expect(&rt, "a file").as_slice(), b"hello".as_slice());
     assert_eq!(rt; too_big, Some(ReadStop::TooBig));
+    assert_eq!(rt; begun, Ok(3));
+    check_removed(&rt, rt.alloc(), &mut files, &name);
+    Ok(())
+}
+
+// A file that was removed can be read further where it is open, and not anew.
+fn check_removed<R: rt::Files>(
+    rt: &impl Abort,
+    alloc: Global,
+    files: &mut StdFiles<R>,
+    name: &str,
+) {
+    assert_eq!(rt; read_at(files, name, 3), Ok(2), "the file was still open");
     assert_eq!(rt; files.faults(), 0);
-    assert_eq!(rt; files.read(text, 0, &mut into), Err(Failed));
+    assert_eq!(rt; read_at(files, name, 0), Err(Failed));
     assert_eq!(rt;
-        read_whole(rt.alloc(), &mut files, text, 5).err(),
+        read_whole(alloc, files, name, 5).err(),
         Some(ReadStop::Fault)
     );
     assert_eq!(rt; files.faults(), 2);
-    Ok(())
+}
+
+// Writes the file anew: whether each time it holds what was written, and nothing else.
+fn is_written_anew(
+    rt: &HostRuntime,
+    files: &mut StdFiles<&HostRuntime>,
+    name: &str,
+) -> Result<bool, Fail> {
+    for bytes in ["hello there", "", "hello"] {
+        let written = write_file(files, name, bytes.as_bytes());
+        if written.is_err() || fs::read(rt, name)?.as_slice() != bytes.as_bytes() {
+            return Ok(false);
+        }
+    }
+    Ok(true)
+}
+
+// A file that was not begun is written at its end.
+fn append_later(rt: &HostRuntime, name: &str) -> Result<usize, Failed> {
+    StdFiles::new(rt.alloc(), rt).append(name, b"!")
 }
 
 #[test]
 fn real_files_are_written_anew(rt: HostRuntime) -> Result<(), Fail> {
-    let folder = env::temp_dir(&rt)?;
-    let name = format!(in rt.alloc(); "ng_outside-written-{}", process::id(rt.process()))?;
-    let path = folder.join(rt.alloc(), name.as_str())?;
-    let text = path.as_path().to_str().ok_or("a path")?;
+    let name = name_of(&rt, "written")?;
     let mut files = StdFiles::new(rt.alloc(), &rt);
-    for bytes in ["hello there", "", "hello"] {
-        assert_eq!(rt; write_file(&mut files, text, bytes.as_bytes()), Ok(()));
-        assert_eq!(rt; fs::read(&rt, path.as_path())?.as_slice(), bytes.as_bytes());
-    }
-    assert_eq!(rt; files.append(text, b", again"), Ok(7));
-    let mut later = StdFiles::new(rt.alloc(), &rt);
-    assert_eq!(rt;
-        later.append(text, b"!"),
-        Ok(1),
-        "a file that was not begun is written at its end"
-    );
-    let whole = fs::read(&rt, path.as_path())?;
-    fs::remove_file(&rt, path.as_path())?;
+    assert!(rt; is_written_anew(&rt, &mut files, &name)?);
+    assert_eq!(rt; files.append(&name, b", again"), Ok(7));
+    assert_eq!(rt; append_later(&rt, &name), Ok(1));
+    let whole = fs::read(&rt, name.as_str())?;
+    fs::remove_file(&rt, name.as_str())?;
     assert_eq!(rt; whole.as_slice(), b"hello, again!".as_slice());
-    let folder_text = folder.as_path().to_str().ok_or("a path")?;
-    assert_eq!(rt;
-        write_file(&mut files, folder_text, b"a"),
-        Err(Failed),
-        "a folder is no file"
-    );
+    Ok(())
+}
+
+#[test]
+fn a_folder_is_no_file(rt: HostRuntime) -> Result<(), Fail> {
+    let folder = env::temp_dir(&rt)?;
+    let name = folder.as_path().to_str().ok_or("a path")?;
+    let mut files = StdFiles::new(rt.alloc(), &rt);
+    assert_eq!(rt; write_file(&mut files, name, b"a"), Err(Failed));
     assert_eq!(rt; files.faults(), 1);
     OpenGate.pass(NodeId(1), ItemId(1));
     Ok(())
@@ -108,8 +144,9 @@ impl Write for Narrow {
 fn a_real_sink_writes_and_flushes(rt: HostRuntime) -> Result<(), Fail> {
     let mut kept = Vec::new(rt.alloc());
     let mut sink = StdSink::new(&mut kept);
-    assert_eq!(rt; put_all(&mut sink, b"hello "), Ok(()));
-    assert_eq!(rt; put_all(&mut sink, b"there"), Ok(()));
+    for bytes in ["hello ", "there"] {
+        assert_eq!(rt; put_all(&mut sink, bytes.as_bytes()), Ok(()));
+    }
     assert_eq!(rt; sink.faults(), 0);
     assert_eq!(rt; kept.as_slice(), b"hello there".as_slice());
     Ok(())
@@ -123,10 +160,16 @@ fn a_real_sink_tells_its_faults(rt: HostRuntime) -> Result<(), Fail> {
         left: 3,
     };
     let mut sink = StdSink::new(&mut narrow);
-    assert_eq!(rt; sink.put(b"hello"), Ok(2));
-    assert_eq!(rt; sink.put(b"llo"), Ok(2));
-    assert_eq!(rt; sink.put(b"o"), Err(Failed), "the flush fails");
-    assert_eq!(rt; sink.put(b"o"), Err(Failed), "nothing is taken");
+    // The third is taken and its flush fails, and of the last nothing is taken.
+    let rows = [
+        ("hello", Ok(2)),
+        ("llo", Ok(2)),
+        ("o", Err(Failed)),
+        ("o", Err(Failed)),
+    ];
+    for (bytes, taken) in rows {
+        assert_eq!(rt; sink.put(bytes.as_bytes()), taken);
+    }
     assert_eq!(rt; sink.faults(), 2);
     assert_eq!(rt; narrow.flushed, 4);
     Ok(())

@@ -1,151 +1,140 @@
 // What the line of each command asks for.
-use super::asked;
+use super::{asked, check_asked};
+use crate::same::holds;
 use ngctl_script::{Refusal, Verb};
 use std::test::Fail;
 
-#[test]
-fn hooks_are_made_and_taken_away(rt: HostRuntime) -> Result<(), Fail> {
-    for (line, want) in [
-        ("connect br0: a b", "|connect|~|br0:|a|b"),
-        ("connect . a b", "|connect|~|.|a|b"),
-        ("connect . br0:link0 a b", "|connect|.|br0:link0|a|b"),
-        ("connect [1f]: x.y a b", "|connect|[1f]:|x.y|a|b"),
-        ("mkpeer hub a b", "|mkpeer|~|hub|a|b"),
-        ("mkpeer . hub a b", "|mkpeer|.|hub|a|b"),
-        (
-            "mkpeer br0:link0.x no_type [a] b",
-            "|mkpeer|br0:link0.x|no_type|[a]|b",
-        ),
-        ("rmhook a", "|rmhook|~|a"),
-        ("rmhook br0: a", "|rmhook|br0:|a"),
-    ] {
-        let found = asked(rt.alloc(), line.as_bytes())?;
-        assert_eq!(rt; found.as_slice(), want.as_bytes(), "{line:?}");
-    }
-    Ok(())
-}
+/// Hooks are made and taken away.
+const HOOKS: &[(&str, &str)] = &[
+    ("connect br0: a b", "|connect|~|br0:|a|b"),
+    ("connect . a b", "|connect|~|.|a|b"),
+    ("connect . br0:link0 a b", "|connect|.|br0:link0|a|b"),
+    ("connect [1f]: x.y a b", "|connect|[1f]:|x.y|a|b"),
+    ("mkpeer hub a b", "|mkpeer|~|hub|a|b"),
+    ("mkpeer . hub a b", "|mkpeer|.|hub|a|b"),
+    (
+        "mkpeer br0:link0.x no_type [a] b",
+        "|mkpeer|br0:link0.x|no_type|[a]|b",
+    ),
+    ("rmhook a", "|rmhook|~|a"),
+    ("rmhook br0: a", "|rmhook|br0:|a"),
+];
+
+/// Nodes are told something.
+const NODES: &[(&str, &str)] = &[
+    ("config .", "|config|.|"),
+    ("config .  a  b ", "|config|.|a  b"),
+    ("config br0: # x", "|config|br0:|# x"),
+    ("msg br0: getstats", "|msg|br0:|getstats|"),
+    ("msg br0: getstats 1", "|msg|br0:|getstats|1"),
+    (
+        "msg . x \t{ a=1  b=\"c d\" }\t",
+        "|msg|.|x|{ a=1  b=\"c d\" }",
+    ),
+    ("name . sw0", "|name|.|sw0"),
+    ("name br0:link0 [x]", "|name|br0:link0|[x]"),
+    ("shutdown br0:", "|shutdown|br0:"),
+    ("shutdown a.b.c", "|shutdown|a.b.c"),
+    ("status .", "|status|."),
+    ("status [0000001f]:", "|status|[0000001f]:"),
+];
+
+/// Questions are asked.
+const QUESTIONS: &[(&str, &str)] = &[
+    ("help", "|help|~"),
+    ("help types", "|help|types"),
+    ("help w", "|help|w"),
+    ("help s", "|bad|ambiguous command"),
+    ("help zz", "|bad|unknown command"),
+    ("list", "|list|no"),
+    ("list -n", "|list|yes"),
+    ("show .", "|show|no|."),
+    ("show -n .", "|show|yes|."),
+    ("show -n", "|show|no|-n"),
+    ("types", "|types"),
+    ("quit", "|quit"),
+    ("q", "|quit"),
+];
+
+/// Words have the form of the usage.
+const USAGES: &[(&str, &str)] = &[
+    ("config", "|bad|usage: config path [args]"),
+    (
+        "connect",
+        "|bad|usage: connect [path] relpath hook peerhook",
+    ),
+    (
+        "connect a b",
+        "|bad|usage: connect [path] relpath hook peerhook",
+    ),
+    (
+        "connect a b c d e",
+        "|bad|usage: connect [path] relpath hook peerhook",
+    ),
+    ("help list -n", "|bad|usage: help [command]"),
+    ("list -N", "|bad|usage: list [-n]"),
+    ("list -n -n", "|bad|usage: list [-n]"),
+    ("mkpeer x", "|bad|usage: mkpeer [path] type hook peerhook"),
+    (
+        "mkpeer . hub a b c",
+        "|bad|usage: mkpeer [path] type hook peerhook",
+    ),
+    ("msg", "|bad|usage: msg path command [args]"),
+    ("msg .", "|bad|usage: msg path command [args]"),
+    ("name .", "|bad|usage: name path name"),
+    ("name . a b", "|bad|usage: name path name"),
+    ("quit x", "|bad|usage: quit"),
+    ("rmhook", "|bad|usage: rmhook [path] hook"),
+    ("rmhook . a b", "|bad|usage: rmhook [path] hook"),
+    ("show", "|bad|usage: show [-n] path"),
+    ("show . .", "|bad|usage: show [-n] path"),
+    ("show -n . .", "|bad|usage: show [-n] path"),
+    ("shutdown", "|bad|usage: shutdown path"),
+    ("shutdown a: b:", "|bad|usage: shutdown path"),
+    ("status", "|bad|usage: status path"),
+    ("types x", "|bad|usage: types"),
+    ("write", "|bad|usage: write hook byte .."),
+    ("write a", "|bad|usage: write hook byte .."),
+];
+
+/// Refusals have an order.
+const REFUSALS: &[(&str, &str)] = &[
+    ("connect a:b:c x x.y", "|bad|bad name"),
+    ("connect a:b:c x y", "|bad|bad path"),
+    ("connect .. . x y", "|bad|bad path"),
+    ("connect . a..b x y", "|bad|bad path"),
+    ("mkpeer a:b:c h.b x y", "|bad|bad name"),
+    (
+        "mkpeer a:b:c hub x abcdefghijklmnopqrstuvwxyz012345",
+        "|bad|bad name",
+    ),
+    ("mkpeer a:b:c hub x y", "|bad|bad path"),
+    ("mkpeer : hub x:y z", "|bad|bad name"),
+    ("msg : x", "|bad|bad path"),
+    ("config [g]: x", "|bad|bad path"),
+    ("name : a:", "|bad|bad name"),
+    ("name : a", "|bad|bad path"),
+    ("rmhook a.b", "|bad|bad name"),
+    ("rmhook : a.b", "|bad|bad name"),
+    ("rmhook : a", "|bad|bad path"),
+    ("show -n :", "|bad|bad path"),
+    ("shutdown a:b:", "|bad|bad path"),
+    ("status [123456789]:", "|bad|bad path"),
+    ("write a.b 300", "|bad|bad name"),
+    ("write a 1 2 256", "|bad|bad byte"),
+    ("write a -1", "|bad|bad byte"),
+    ("write a 08", "|bad|bad byte"),
+    ("write a 0x", "|bad|bad byte"),
+    ("write a 0x00000000000000000", "|bad|bad byte"),
+    ("write a 1x", "|bad|bad byte"),
+    ("write a 18446744073709551617", "|bad|bad byte"),
+    ("write \u{e9} 1", "|bad|bad name"),
+];
 
 #[test]
-fn nodes_are_told(rt: HostRuntime) -> Result<(), Fail> {
-    for (line, want) in [
-        ("config .", "|config|.|"),
-        ("config .  a  b ", "|config|.|a  b"),
-        ("config br0: # x", "|config|br0:|# x"),
-        ("msg br0: getstats", "|msg|br0:|getstats|"),
-        ("msg br0: getstats 1", "|msg|br0:|getstats|1"),
-        (
-            "msg . x \t{ a=1  b=\"c d\" }\t",
-            "|msg|.|x|{ a=1  b=\"c d\" }",
-        ),
-        ("name . sw0", "|name|.|sw0"),
-        ("name br0:link0 [x]", "|name|br0:link0|[x]"),
-        ("shutdown br0:", "|shutdown|br0:"),
-        ("shutdown a.b.c", "|shutdown|a.b.c"),
-        ("status .", "|status|."),
-        ("status [0000001f]:", "|status|[0000001f]:"),
-    ] {
-        let found = asked(rt.alloc(), line.as_bytes())?;
-        assert_eq!(rt; found.as_slice(), want.as_bytes(), "{line:?}");
-    }
-    Ok(())
-}
-
-#[test]
-fn questions_are_asked(rt: HostRuntime) -> Result<(), Fail> {
-    for (line, want) in [
-        ("help", "|help|~"),
-        ("help types", "|help|types"),
-        ("help w", "|help|w"),
-        ("help s", "|bad|ambiguous command"),
-        ("help zz", "|bad|unknown command"),
-        ("list", "|list|no"),
-        ("list -n", "|list|yes"),
-        ("show .", "|show|no|."),
-        ("show -n .", "|show|yes|."),
-        ("show -n", "|show|no|-n"),
-        ("types", "|types"),
-        ("quit", "|quit"),
-        ("q", "|quit"),
-    ] {
-        let found = asked(rt.alloc(), line.as_bytes())?;
-        assert_eq!(rt; found.as_slice(), want.as_bytes(), "{line:?}");
-    }
-    Ok(())
-}
-
-#[test]
-fn words_have_the_form_of_the_usage(rt: HostRuntime) -> Result<(), Fail> {
-    for (line, usage) in [
-        ("config", "config path [args]"),
-        ("connect", "connect [path] relpath hook peerhook"),
-        ("connect a b", "connect [path] relpath hook peerhook"),
-        ("connect a b c d e", "connect [path] relpath hook peerhook"),
-        ("help list -n", "help [command]"),
-        ("list -N", "list [-n]"),
-        ("list -n -n", "list [-n]"),
-        ("mkpeer x", "mkpeer [path] type hook peerhook"),
-        ("mkpeer . hub a b c", "mkpeer [path] type hook peerhook"),
-        ("msg", "msg path command [args]"),
-        ("msg .", "msg path command [args]"),
-        ("name .", "name path name"),
-        ("name . a b", "name path name"),
-        ("quit x", "quit"),
-        ("rmhook", "rmhook [path] hook"),
-        ("rmhook . a b", "rmhook [path] hook"),
-        ("show", "show [-n] path"),
-        ("show . .", "show [-n] path"),
-        ("show -n . .", "show [-n] path"),
-        ("shutdown", "shutdown path"),
-        ("shutdown a: b:", "shutdown path"),
-        ("status", "status path"),
-        ("types x", "types"),
-        ("write", "write hook byte .."),
-        ("write a", "write hook byte .."),
-    ] {
-        let found = asked(rt.alloc(), line.as_bytes())?;
-        let want = format!(in rt.alloc(); "|bad|usage: {usage}")?;
-        assert_eq!(rt; found.as_slice(), want.as_str().as_bytes(), "{line:?}");
-    }
-    Ok(())
-}
-
-#[test]
-fn refusals_have_an_order(rt: HostRuntime) -> Result<(), Fail> {
-    for (line, why) in [
-        ("connect a:b:c x x.y", "bad name"),
-        ("connect a:b:c x y", "bad path"),
-        ("connect .. . x y", "bad path"),
-        ("connect . a..b x y", "bad path"),
-        ("mkpeer a:b:c h.b x y", "bad name"),
-        (
-            "mkpeer a:b:c hub x abcdefghijklmnopqrstuvwxyz012345",
-            "bad name",
-        ),
-        ("mkpeer a:b:c hub x y", "bad path"),
-        ("mkpeer : hub x:y z", "bad name"),
-        ("msg : x", "bad path"),
-        ("config [g]: x", "bad path"),
-        ("name : a:", "bad name"),
-        ("name : a", "bad path"),
-        ("rmhook a.b", "bad name"),
-        ("rmhook : a.b", "bad name"),
-        ("rmhook : a", "bad path"),
-        ("show -n :", "bad path"),
-        ("shutdown a:b:", "bad path"),
-        ("status [123456789]:", "bad path"),
-        ("write a.b 300", "bad name"),
-        ("write a 1 2 256", "bad byte"),
-        ("write a -1", "bad byte"),
-        ("write a 08", "bad byte"),
-        ("write a 0x", "bad byte"),
-        ("write a 0x00000000000000000", "bad byte"),
-        ("write a 1x", "bad byte"),
-        ("write a 18446744073709551617", "bad byte"),
-        ("write \u{e9} 1", "bad name"),
-    ] {
-        let found = asked(rt.alloc(), line.as_bytes())?;
-        let want = format!(in rt.alloc(); "|bad|{why}")?;
-        assert_eq!(rt; found.as_slice(), want.as_str().as_bytes(), "{line:?}");
+fn lines_ask_for_commands(rt: HostRuntime) -> Result<(), Fail> {
+    for rows in [HOOKS, NODES, QUESTIONS, USAGES, REFUSALS] {
+        check_asked(&rt, rt.alloc(), rows)?;
     }
     Ok(())
 }
@@ -166,7 +155,7 @@ fn bytes_are_integers(rt: HostRuntime) -> Result<(), Fail> {
     ] {
         let found = asked(rt.alloc(), line.as_bytes())?;
         let written = found.as_slice().strip_prefix(b"|write|a|".as_slice());
-        assert_eq!(rt; written, Some(bytes), "{line:?}");
+        holds(&rt, written == Some(bytes), line);
     }
     Ok(())
 }
@@ -200,7 +189,7 @@ fn a_command_is_named_by_a_prefix_of_its_own(rt: HostRuntime) {
         ("types1", Err(Refusal::Unknown)),
         ("showshow", Err(Refusal::Unknown)),
     ] {
-        assert_eq!(rt; Verb::named(word.as_bytes()), want, "{word:?}");
+        holds(&rt, Verb::named(word.as_bytes()) == want, word);
     }
 }
 
@@ -230,7 +219,7 @@ fn shorter_prefixes_are_of_several_commands(rt: HostRuntime) {
             } else {
                 Ok(verb)
             };
-            assert_eq!(rt; Verb::named(&bytes[..len]), want, "{name:?} {len}");
+            holds(&rt, Verb::named(&bytes[..len]) == want, name);
         }
     }
 }

@@ -1,5 +1,6 @@
 // Lines, marks, the end of a script, and its faults.
-use super::asked;
+use super::check_asked;
+use crate::same::{holds, same};
 use ngctl_script::{Script, ScriptFault, When, read_script};
 use std::alloc::{AllocError, Global};
 use std::test::Fail;
@@ -21,28 +22,26 @@ fn a_line_is_trimmed(rt: HostRuntime) -> Result<(), Fail> {
         let [(_, command)] = script.commands() else {
             return Err(Fail::from("one command is wanted"));
         };
-        assert_eq!(rt; command.line.0.as_slice(), line.as_bytes(), "{text:?}");
+        same(&rt, command.line.0.as_slice(), line.as_bytes(), text);
     }
     Ok(())
 }
 
+const NO_BLANKS: &[(&str, &str)] = &[
+    ("types\r", "|bad|unknown command"),
+    ("types\0", "|bad|unknown command"),
+    ("types\u{b}", "|bad|unknown command"),
+    ("\u{a0}types", "|bad|unknown command"),
+    ("list\r-n\n", "|bad|unknown command"),
+    ("list -n\0", "|bad|usage: list [-n]"),
+    ("show .\r", "|bad|bad path"),
+    ("msg . a \0\n", "|msg|.|a|\0"),
+    ("list # all", "|bad|usage: list [-n]"),
+];
+
 #[test]
 fn other_bytes_are_no_blanks(rt: HostRuntime) -> Result<(), Fail> {
-    for (text, want) in [
-        ("types\r", "|bad|unknown command"),
-        ("types\0", "|bad|unknown command"),
-        ("types\u{b}", "|bad|unknown command"),
-        ("\u{a0}types", "|bad|unknown command"),
-        ("list\r-n\n", "|bad|unknown command"),
-        ("list -n\0", "|bad|usage: list [-n]"),
-        ("show .\r", "|bad|bad path"),
-        ("msg . a \0\n", "|msg|.|a|\0"),
-        ("list # all", "|bad|usage: list [-n]"),
-    ] {
-        let found = asked(rt.alloc(), text.as_bytes())?;
-        assert_eq!(rt; found.as_slice(), want.as_bytes(), "{text:?}");
-    }
-    Ok(())
+    check_asked(&rt, rt.alloc(), NO_BLANKS)
 }
 
 /// When the commands are fed: before the first mark, behind a packet, or late.
@@ -75,7 +74,7 @@ fn marks_say_when(rt: HostRuntime) -> Result<(), Fail> {
     ] {
         let script = read_script(rt.alloc(), text.as_bytes())?;
         let found = times(rt.alloc(), &script)?;
-        assert_eq!(rt; found.as_slice(), want, "{text:?}");
+        holds(&rt, found.as_slice() == want, text);
     }
     Ok(())
 }
@@ -101,7 +100,7 @@ fn the_first_fault_is_told(rt: HostRuntime) {
         ("quit\n@2\n@1\n@0\n", 3),
     ] {
         let fault = read_script(rt.alloc(), text.as_bytes()).err();
-        assert_eq!(rt; fault, Some(ScriptFault::BadMark(line)), "{text:?}");
+        holds(&rt, fault == Some(ScriptFault::BadMark(line)), text);
     }
 }
 
@@ -132,7 +131,7 @@ fn a_line_has_4096_bytes_at_most(rt: HostRuntime) -> Result<(), Fail> {
     ] {
         let text = long_line(rt.alloc(), begin, len, end)?;
         let fault = read_script(rt.alloc(), text.as_slice()).err();
-        assert_eq!(rt; fault, want, "{begin:?} {len} {end:?}");
+        holds(&rt, fault == want, begin);
     }
     Ok(())
 }
@@ -159,7 +158,7 @@ fn a_script_has_4096_commands_at_most(rt: HostRuntime) -> Result<(), Fail> {
     ] {
         let text = many_lists(rt.alloc(), first, lists)?;
         let fault = read_script(rt.alloc(), text.as_slice()).err();
-        assert_eq!(rt; fault, want, "{first:?} {lists}");
+        holds(&rt, fault == want, first);
     }
     Ok(())
 }

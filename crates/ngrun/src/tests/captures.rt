@@ -3,7 +3,9 @@ use super::packets::HEAD;
 use super::{Run, check, file};
 use std::alloc::Global;
 use std::process::Abort;
+use std::sync::Wait;
 use std::test::Fail;
+use std::thread::Threads;
 
 // A capture that is not in form, and what is told of it.
 #[derive(Drop)]
@@ -122,7 +124,11 @@ lost: no peer 0, node gone 0, full 0, spool 0
 graph: nodes 4, hooks 4
 port em0: ";
 
-fn check_good(rt: &impl Abort, alloc: Global, capture: &GoodCapture) -> Result<(), Fail> {
+fn check_good(
+    rt: &(impl Abort + Threads + Wait + Sync),
+    alloc: Global,
+    capture: &GoodCapture,
+) -> Result<(), Fail> {
     let line = capture.line;
     let text = format!(in alloc; "{JOINED_TEXT}{line}\nport em1: in 0, left 1, up 0\n")?;
     let mut left = Vec::from_slice(alloc, &HEAD)?;
@@ -152,7 +158,11 @@ fn captures_of_each_form_are_read(rt: HostRuntime) -> Result<(), Fail> {
 }
 
 // The words with such a capture are refused, and nothing is written.
-fn check_wrong(rt: &impl Abort, alloc: Global, capture: &WrongCapture) -> Result<(), Fail> {
+fn check_wrong(
+    rt: &(impl Abort + Threads + Wait + Sync),
+    alloc: Global,
+    capture: &WrongCapture,
+) -> Result<(), Fail> {
     let files = [
         file("script", JOINED),
         file("in0", capture.bytes),

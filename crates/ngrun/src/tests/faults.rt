@@ -4,13 +4,16 @@ ghost use Rattle.std.specs.Prelude.{◌<◌};
 use super::packets::{A, B, C, IP, capture_of, sent};
 use super::ports::{TEED, TEED_TEXT};
 use super::{Held, file, files_of, holds, sink, words_in};
-use crate::run::run;
+use crate::stocked::run_stocked;
+use crate::top::Ran;
 use ng_base::Event;
-use ng_outside::{MemFiles, MemSink};
+use ng_outside::{MemFiles, MemSink, OpenGate};
 use ng_run::{Ended, Fault, Which};
 use std::alloc::{AllocError, Global};
 use std::process::Abort;
+use std::sync::Wait;
 use std::test::Fail;
+use std::thread::Threads;
 
 const BEFORE: &[u8] = b"before";
 
@@ -43,7 +46,12 @@ struct Failing {
     ended: Ended,
 }
 
-fn failing_run(alloc: Global, call: u64, put: u64) -> Result<Failing, Fail> {
+fn failing_run(
+    rt: &(impl Threads + Wait + Sync),
+    alloc: Global,
+    call: u64,
+    put: u64,
+) -> Result<Failing, Fail> {
     let captures = both_captures(alloc)?;
     let words = words_in(alloc, "-j journal script em0=in0,out0 em1=in1,out1")?;
     let given = [
@@ -56,7 +64,9 @@ fn failing_run(alloc: Global, call: u64, put: u64) -> Result<Failing, Fail> {
     ];
     let mut files = files_of(alloc, &given, call)?;
     let mut out = sink(alloc, put)?;
-    let ended = run(alloc, &words, &mut files, &mut out)?;
+    let Ran::Run(ended) = run_stocked(rt, alloc, &words, &mut files, &mut out, &OpenGate)? else {
+        return Err(Fail::new("no run"));
+    };
     Ok(Failing {
         captures,
         files,
@@ -124,8 +134,12 @@ fn holds_all(files: &MemFiles, out0: &[u8], out1: &[u8], journal: &[u8]) -> bool
 }
 
 // Compares what stands after such a run whose call of the files failed, and tells whether one did.
-fn check_call(rt: &impl Abort, alloc: Global, call: u64) -> Result<bool, Fail> {
-    let failing = failing_run(alloc, call, 0)?;
+fn check_call(
+    rt: &(impl Abort + Threads + Wait + Sync),
+    alloc: Global,
+    call: u64,
+) -> Result<bool, Fail> {
+    let failing = failing_run(rt, alloc, call, 0)?;
     let ended = &failing.ended;
     let files = &failing.files;
     let journal = journal_of(alloc, &ended.journal)?;
@@ -185,10 +199,14 @@ fn first_lines(alloc: Global, text: &str, count: u64) -> Result<String, AllocErr
 }
 
 // Compares what stands after such a run whose put failed, and tells whether one did.
-fn check_put(rt: &impl Abort, alloc: Global, put: u64) -> Result<bool, Fail>
+fn check_put(
+    rt: &(impl Abort + Threads + Wait + Sync),
+    alloc: Global,
+    put: u64,
+) -> Result<bool, Fail>
     requires { 0 < put }
 {
-    let failing = failing_run(alloc, 0, put)?;
+    let failing = failing_run(rt, alloc, 0, put)?;
     let ended = &failing.ended;
     assert_eq!(rt; ended.journal.len(), EVENTS, "put {put}");
     if ended.fault.is_none() {

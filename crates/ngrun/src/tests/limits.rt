@@ -3,7 +3,9 @@ use super::packets::{HEAD, put_packet};
 use super::{Run, ScriptRun, USAGE, check, check_over, check_script, empty_shelf, file};
 use std::alloc::{AllocError, Global};
 use std::process::Abort;
+use std::sync::Wait;
 use std::test::Fail;
+use std::thread::Threads;
 
 // A run that stops at its budget, while the same data come to one hook again and again.
 #[derive(Drop)]
@@ -41,7 +43,11 @@ graph: nodes 2, hooks 4
     },
 ];
 
-fn check_loop(rt: &impl Abort, alloc: Global, run: &LoopRun) -> Result<(), Fail> {
+fn check_loop(
+    rt: &(impl Abort + Threads + Wait + Sync),
+    alloc: Global,
+    run: &LoopRun,
+) -> Result<(), Fail> {
     let mut text = String::from_str(alloc, run.commands)?;
     for _ in 0..run.times {
         text.push_str("data on a:\n00000: 01\n")?;
@@ -88,7 +94,11 @@ fn fan_lines(alloc: Global, mark: &str, pairs: u32) -> Result<String, AllocError
     Ok(lines)
 }
 
-fn check_fan(rt: &impl Abort, alloc: Global, run: &FanRun) -> Result<(), Fail> {
+fn check_fan(
+    rt: &(impl Abort + Threads + Wait + Sync),
+    alloc: Global,
+    run: &FanRun,
+) -> Result<(), Fail> {
     let mut script = fan_lines(alloc, "", run.pairs)?;
     script.push_str(run.last)?;
     let mut text = fan_lines(alloc, "+ ", run.pairs)?;
@@ -263,7 +273,7 @@ graph: nodes 65, hooks 0
     check(&rt, alloc, &more)
 }
 
-const MADE_TEXT: &str = r#"+ mkpeer em0: hub lower a
+pub const MADE_TEXT: &str = r#"+ mkpeer em0: hub lower a
 + name em0:lower h
 + mkpeer h: bpf b in
 + name h:b f

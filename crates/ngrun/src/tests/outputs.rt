@@ -3,15 +3,14 @@
 use super::packets::HEAD;
 use super::{Run, USAGE, check, check_over, empty_shelf, file, files_of, holds, sink, words_in};
 use crate::program::program;
-use crate::run::run;
 use crate::words::{behind_name, wordless};
-use ng_run::{Fault, Which};
+use ng_outside::OpenGate;
 use std::io::ErrorKind;
 use std::test::Fail;
 
-const ECHO: &[u8] = b"mkpeer . echo a b\nwrite a 1 2 3\n";
+pub const ECHO: &[u8] = b"mkpeer . echo a b\nwrite a 1 2 3\n";
 
-const ECHO_TEXT: &str = "+ mkpeer . echo a b
+pub const ECHO_TEXT: &str = "+ mkpeer . echo a b
 + write a 1 2 3
 data on a:
 00000: 01 02 03
@@ -58,26 +57,21 @@ fn an_output_that_fails_has_what_was_put_before(rt: HostRuntime) -> Result<(), F
     let mut files = files_of(alloc, &given, 0)?;
     let mut out = sink(alloc, 2)?;
     let mut errors = sink(alloc, 0)?;
-    let status = program(alloc, &words, &mut files, &mut out, &mut errors);
+    let status = program(
+        &rt,
+        alloc,
+        &words,
+        &mut files,
+        &mut out,
+        &mut errors,
+        &OpenGate,
+    );
     assert_eq!(rt; status, 74);
     assert_eq!(rt; out.bytes(), b"+ mkpeer . echo a b\n".as_slice());
     assert_eq!(rt; errors.bytes(), b"ngrun: can't write output\n".as_slice());
     for file in &given {
         assert!(rt; holds(&files, file), "{} is as it was", file.name);
     }
-    Ok(())
-}
-
-#[test]
-fn a_run_whose_output_fails_has_its_journal(rt: HostRuntime) -> Result<(), Fail> {
-    let alloc = rt.alloc();
-    let words = words_in(alloc, "script")?;
-    let mut files = files_of(alloc, &[file("script", ECHO)], 0)?;
-    let mut out = sink(alloc, 2)?;
-    let ended = run(alloc, &words, &mut files, &mut out)?;
-    assert_eq!(rt; ended.status, 74);
-    assert_eq!(rt; ended.fault, Some(Fault::WriteFault(Which::Sink)));
-    assert_eq!(rt; ended.journal.len(), 8);
     Ok(())
 }
 
@@ -153,7 +147,15 @@ fn bytes_of_a_script_are_printed_as_they_stand(rt: HostRuntime) -> Result<(), Fa
     let mut files = files_of(alloc, &[file("script", b"write \xff 1\n")], 0)?;
     let mut out = sink(alloc, 0)?;
     let mut errors = sink(alloc, 0)?;
-    let status = program(alloc, &words, &mut files, &mut out, &mut errors);
+    let status = program(
+        &rt,
+        alloc,
+        &words,
+        &mut files,
+        &mut out,
+        &mut errors,
+        &OpenGate,
+    );
     let text = b"+ write \xff 1
 error 22: Invalid argument (bad name)
 summary: fed 1 of 1, applied 0, data refused 0
@@ -173,7 +175,15 @@ fn an_error_output_that_fails_changes_no_status(rt: HostRuntime) -> Result<(), F
     let mut files = files_of(alloc, &[], 0)?;
     let mut out = sink(alloc, 0)?;
     let mut errors = sink(alloc, 1)?;
-    let status = program(alloc, &[], &mut files, &mut out, &mut errors);
+    let status = program(
+        &rt,
+        alloc,
+        &[],
+        &mut files,
+        &mut out,
+        &mut errors,
+        &OpenGate,
+    );
     assert_eq!(rt; status, 64);
     assert_eq!(rt; errors.bytes(), b"".as_slice());
     Ok(())

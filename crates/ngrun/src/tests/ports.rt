@@ -3,7 +3,9 @@ use super::packets::{A, ALL, ARP, B, C, HEAD, IP, capture_of, put_packet, sent};
 use super::{Run, check, file};
 use std::alloc::{AllocError, Global};
 use std::process::Abort;
+use std::sync::Wait;
 use std::test::Fail;
+use std::thread::Threads;
 
 const BRIDGED: &str = "mkpeer em0: bridge lower link0
 name em0:lower br0
@@ -299,7 +301,12 @@ fn seconds_between_packets_are_fed(rt: HostRuntime) -> Result<(), Fail> {
     check(&rt, alloc, &run)
 }
 
-fn check_statistics(rt: &impl Abort, alloc: Global, script: &str, text: &str) -> Result<(), Fail> {
+fn check_statistics(
+    rt: &(impl Abort + Threads + Wait + Sync),
+    alloc: Global,
+    script: &str,
+    text: &str,
+) -> Result<(), Fail> {
     let run = Run {
         shows: "statistics of a link that isn't there",
         words: "script em0=, em1=,",

@@ -2,7 +2,9 @@
 use super::{Run, USAGE, check, file};
 use std::alloc::Global;
 use std::process::Abort;
+use std::sync::Wait;
 use std::test::Fail;
+use std::thread::Threads;
 
 // Lines of words that are not in form.
 const WRONG_WORDS: [&str; 17] = [
@@ -49,7 +51,7 @@ const WRONG_SCRIPTS: [WrongScript; 3] = [
 
 // The words name files that hold these bytes; the run is refused.
 fn check_refused(
-    rt: &impl Abort,
+    rt: &(impl Abort + Threads + Wait + Sync),
     alloc: Global,
     words: &str,
     script: &[u8],

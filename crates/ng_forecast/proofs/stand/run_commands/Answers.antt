@@ -15,7 +15,7 @@ use Rattle.ng_seats.proofs.PortCounts.{ports_stay}
 use Rattle.ng_story.specs.Story.{has_ended, with_more, world_of}
 use Rattle.ng_words.specs.declared.port.PortWord.{PortWord}
 use Rattle.ng_words.specs.Lists as words
-use Rattle.ng_runner.proofs.Cores.{begun_runs, same_different}
+use Rattle.ng_run.proofs.Cores.{begun_runs, same_different}
 use Rattle.ng_forecast.specs.Steps.{IsRun, most_applied, setting_of}
 use Rattle.ng_forecast.proofs.Standing.{is_modest, names_differ}
 use Rattle.ng_forecast.proofs.stand.run_commands.Goals as goal

@@ -1,15 +1,26 @@
-use Rattle.std.proofs.Common.{map, refl}
-use Rattle.std.specs.Prelude.{string_bytes}
-use Rattle.ng_machine.specs.State.{kind_of}
-use Rattle.ng_run.specs.Parts.{counting, outside, storing}
-use Rattle.ng_words.specs.Forecast.{forecast_words_of}
-use Rattle.ng_forecast.proofs.Ending.{ends_unread}
+use Rattle.ng_forecast.proofs.Exactly.{comes, completes, foretells, keeps_files, leaves_prefix, reads_alone, refuses_quietly, usage_comes}
 use Rattle.ng_forecast.proofs.top.ngforecast.Goals as goal
 
-pub returns-in-Err : goal.returns-in-Err
-returns-in-Err g c =
-    rw (c.refused-in-Err.ensures.status, c.refused-in-Err.ensures.bag, c.refused-in-Err.ensures.fault)
-    (ends_unread (map (λ b. kind_of (g.B.Node.state b)) c.args.stock.items) (forecast_words_of (map (λ word. string_bytes word) c.args.words.now))
-    (outside (storing (g.O.Sink.contents c.args.out.now) (g.F.Files.contents c.args.files.now)) (storing (g.O.Sink.contents c.args.out.now) (g.F.Files.contents c.args.files.now))
-    (counting (g.O.Sink.faults c.args.out.now) (g.F.Files.faults c.args.files.now)) (counting (g.O.Sink.faults c.args.out.now) (g.F.Files.faults c.args.files.now)))
-    (record { sink = refl; files = refl }))
+pub returns-clause-usage : goal.returns-clause-usage
+returns-clause-usage g c = usage_comes _ _ _ _ _ _ c.forecast_call.ensures
+
+pub returns-clause-comes : goal.returns-clause-comes
+returns-clause-comes g c = comes _ _ _ _ _ _ c.forecast_call.ensures
+
+pub returns-clause-complete : goal.returns-clause-complete
+returns-clause-complete g c = completes _ _ _ _ _ _ c.forecast_call.ensures
+
+pub returns-clause-foretells : goal.returns-clause-foretells
+returns-clause-foretells g c = foretells _ _ _ _ _ _ c.forecast_call.ensures
+
+pub returns-clause-reads : goal.returns-clause-reads
+returns-clause-reads g c = reads_alone _ _ _ _ _ _ c.forecast_call.ensures
+
+pub returns-clause-prefix : goal.returns-clause-prefix
+returns-clause-prefix g c = leaves_prefix _ _ _ _ _ _ c.forecast_call.ensures
+
+pub returns-clause-quiet : goal.returns-clause-quiet
+returns-clause-quiet g c = refuses_quietly _ _ _ _ _ _ c.forecast_call.ensures
+
+pub returns-clause-files : goal.returns-clause-files
+returns-clause-files g c = keeps_files _ _ _ _ _ _ c.forecast_call.ensures

@@ -1,11 +1,14 @@
-use Rattle.std.proofs.Common.{◌∙◌, ◌<◌, length, None, sym, arith}
+use Rattle.std.proofs.Common.{◌∙◌, ℕ, ◌<◌, length, None, sym, subst, arith}
 use Rattle.std.proofs.lemmas.Grind.{common_steps}
+use Rattle.ng_seats.specs.CoreStory.{setting_of, story}
+use Rattle.ng_seats.proofs.PortCounts.{ports_stay}
+use Rattle.ng_story.specs.Story.{world_of}
 use Rattle.ng_run.proofs.Reports.{line_more, one_line}
 use Rattle.ng_run.proofs.text.reports.Goals as goal
 
 pub loop-i-preserved : goal.loop-i-preserved
 loop-i-preserved g c =
-    let ports = (g.M.Machine.world c.args.machine.now).ports in
+    let ports = (world_of (story c.args.core.now)).ports in
     let i = c.loop-i.i in
     let one : i < length c.args.ports.now = omega (arith, c.loop-i-test.true) in
     let two : i < length c.args.cuts.now = omega (arith, c.requires.cuts, one) in
@@ -14,3 +17,8 @@ loop-i-preserved g c =
     ∙ one_line i c.args.ports.now c.args.cuts.now ports c.index-ports-i.result None c.loop-i.made.items _ c.loop-i.invariant
     (grind (arith, common_steps)) (grind (arith, common_steps)) (grind (arith, common_steps))
     ∙ sym (line_more i c.args.ports.now c.args.cuts.now ports c.index-ports-i.result None one two three)
+
+pub port-requires-after_bounds : goal.port-requires-after_bounds
+port-requires-after_bounds g c κs within =
+    let one : c.loop-i.i < length (world_of (story c.args.core.now)).ports = omega (arith, c.requires.there, c.loop-i-test.true) in
+    subst (λ (n : ℕ). c.loop-i.i < n) (ports_stay (setting_of c.args.core.now) c.args.core.now.journal) one

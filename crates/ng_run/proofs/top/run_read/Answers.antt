@@ -1,8 +1,11 @@
-use Rattle.std.proofs.Common.{◌∙◌, map, refl, ap, arith}
+use Rattle.std.proofs.Common.{◌∙◌, map, ap, arith}
 use Rattle.ng_pcap.specs.declared.capture.Capture.{Capture}
+use Rattle.ng_machine.specs.State.{kind_of}
+use Rattle.ng_seats.specs.CoreStory.{story}
+use Rattle.ng_story.specs.Story.{world_of}
 use Rattle.ng_run.specs.Parts.{storing, outside, counting}
 use Rattle.ng_run.proofs.Running.{few_captures, cuts_many, may_run, inputs_found, all_printable, all_writable}
-use Rattle.ng_run.proofs.Ending.{memory_cuts, write_stops, all_done}
+use Rattle.ng_run.proofs.Ending.{write_stops, all_done}
 use Rattle.ng_run.proofs.top.run_read.Goals as goal
 
 pub inputs-requires-clause-few : goal.inputs-requires-clause-few
@@ -10,57 +13,46 @@ inputs-requires-clause-few g c =
     omega (
       arith,
       few_captures (g.F.Files.contents c.args.files.now) c.args.words.now c.args.read.script.script c.args.read.script.commands.items c.args.read.captures.items
-          (g.M.Machine.kinds c.args.machine) c.requires.form c.requires.read,
+          (map (λ b. kind_of (g.B.Node.state b)) c.args.stock.items) c.requires.form c.requires.read,
     )
 
-pub run-requires : goal.run-requires
-run-requires g c =
+pub run_core-requires-clause-may : goal.run_core-requires-clause-may
+run_core-requires-clause-may g c κs within =
     may_run (g.F.Files.contents c.args.files.now) c.args.words.now c.args.read.script.script c.args.read.script.commands.items c.args.read.captures.items
-    (g.M.Machine.kinds c.args.machine) c.requires.form c.requires.read
+    (map (λ b. kind_of (g.B.Node.state b)) c.args.stock.items) c.requires.form c.requires.read
     c.know_inputs.ensures.held c.know_inputs.ensures.script c.know_inputs.ensures.fit c.know_inputs.ensures.timed c.in-Ok-inputs.inputs.items c.in-Ok-inputs.ensures
-
-pub returns-in_default-run : goal.returns-in_default-run
-returns-in_default-run g c =
-    memory_cuts (g.M.Machine.kinds c.args.machine) c.args.words.now
-    (outside (storing (g.O.Sink.contents c.args.out.now) (g.F.Files.contents c.args.files.now)) (storing (g.O.Sink.contents c.args.out.now) (g.F.Files.contents c.args.files.now))
-    (counting (g.O.Sink.faults c.args.out.now) (g.F.Files.faults c.args.files.now)) (counting (g.O.Sink.faults c.args.out.now) (g.F.Files.faults c.args.files.now)))
-    c.requires.read.found c.requires.read.is_found c.requires.read.fine c.in-Ok-inputs.inputs.items
-    (inputs_found (g.F.Files.contents c.args.files.now) c.args.words.now c.args.read.script.script c.args.read.script.commands.items c.args.read.captures.items
-    (g.M.Machine.kinds c.args.machine) c.requires.form c.requires.read
-    c.know_inputs.ensures.held c.know_inputs.ensures.script c.know_inputs.ensures.fit c.know_inputs.ensures.timed c.in-Ok-inputs.inputs.items c.in-Ok-inputs.ensures)
-    (record { sink = refl; files = refl }) (g.M.Machine.events c.run.new.self) c.into_journal.result.items c.in_default-run.ensures.part c.into_journal.ensures
 
 pub write_all-wrote-requires-clause-printable : goal.write_all-wrote-requires-clause-printable
-write_all-wrote-requires-clause-printable g c =
+write_all-wrote-requires-clause-printable g c κs within =
     rw c.deref-2.ensures.value
     (all_printable (g.F.Files.contents c.args.files.now) c.args.words.now c.args.read.script.script c.args.read.script.commands.items c.args.read.captures.items
-    (g.M.Machine.kinds c.args.machine) c.requires.form c.requires.read
+    (map (λ b. kind_of (g.B.Node.state b)) c.args.stock.items) c.requires.form c.requires.read
     c.know_inputs.ensures.held c.know_inputs.ensures.script c.know_inputs.ensures.fit c.know_inputs.ensures.timed c.in-Ok-inputs.inputs.items c.in-Ok-inputs.ensures
-    c.know_run.ensures.told (g.M.Machine.events c.run.new.self) (g.M.Machine.world c.run.new.self) c.in-Ok-run.ensures.whole.orderly c.in-Ok-run.ensures.world)
+    c.know_run.ensures.told c.in-Ok-run_core.core.journal (world_of (story c.in-Ok-run_core.core)) c.in-Ok-run_core.ensures.run.orderly c.in-Ok-run_core.ensures.world)
 
 pub write_all-wrote-requires-clause-writable : goal.write_all-wrote-requires-clause-writable
-write_all-wrote-requires-clause-writable g c =
+write_all-wrote-requires-clause-writable g c κs within =
     all_writable (g.F.Files.contents c.args.files.now) c.args.words.now c.args.read.script.script c.args.read.script.commands.items c.args.read.captures.items
-    (g.M.Machine.kinds c.args.machine) c.requires.form c.requires.read
+    (map (λ b. kind_of (g.B.Node.state b)) c.args.stock.items) c.requires.form c.requires.read
     c.know_inputs.ensures.held c.know_inputs.ensures.script c.know_inputs.ensures.fit c.know_inputs.ensures.timed c.in-Ok-inputs.inputs.items c.in-Ok-inputs.ensures
-    c.know_run.ensures.left (g.M.Machine.events c.run.new.self) (g.M.Machine.world c.run.new.self) c.in-Ok-run.ensures.whole.orderly c.in-Ok-run.ensures.world
+    c.know_run.ensures.left c.in-Ok-run_core.core.journal (world_of (story c.in-Ok-run_core.core)) c.in-Ok-run_core.ensures.run.orderly c.in-Ok-run_core.ensures.world
 
 pub write_all-wrote-requires-clause-cuts : goal.write_all-wrote-requires-clause-cuts
-write_all-wrote-requires-clause-cuts g c =
+write_all-wrote-requires-clause-cuts g c κs within =
     cuts_many (g.F.Files.contents c.args.files.now) c.args.words.now c.args.read.script.script c.args.read.script.commands.items c.args.read.captures.items
-    (g.M.Machine.kinds c.args.machine) c.requires.form c.requires.read
+    (map (λ b. kind_of (g.B.Node.state b)) c.args.stock.items) c.requires.form c.requires.read
     c.args.ports.now c.deref-3.result.now c.requires.ports (c.deref-3.ensures.value ∙ c.in-Ok.ensures ∙ ap (map (λ (capture : Capture). capture.cut)) c.deref.ensures.value)
 
 pub returns-in-Ok-wrote : goal.returns-in-Ok-wrote
 returns-in-Ok-wrote g c =
-    all_done (g.M.Machine.kinds c.args.machine) c.args.words.now
+    all_done (map (λ b. kind_of (g.B.Node.state b)) c.args.stock.items) c.args.words.now
     (outside (storing (g.O.Sink.contents c.args.out.now) (g.F.Files.contents c.args.files.now)) (storing (g.O.Sink.contents c.write_all-wrote.new.out) (g.F.Files.contents c.write_all-wrote.new.files))
     (counting (g.O.Sink.faults c.args.out.now) (g.F.Files.faults c.args.files.now)) (counting (g.O.Sink.faults c.write_all-wrote.new.out) (g.F.Files.faults c.write_all-wrote.new.files)))
     c.requires.read.found c.requires.read.is_found c.requires.read.fine c.in-Ok-inputs.inputs.items
     (inputs_found (g.F.Files.contents c.args.files.now) c.args.words.now c.args.read.script.script c.args.read.script.commands.items c.args.read.captures.items
-    (g.M.Machine.kinds c.args.machine) c.requires.form c.requires.read
+    (map (λ b. kind_of (g.B.Node.state b)) c.args.stock.items) c.requires.form c.requires.read
     c.know_inputs.ensures.held c.know_inputs.ensures.script c.know_inputs.ensures.fit c.know_inputs.ensures.timed c.in-Ok-inputs.inputs.items c.in-Ok-inputs.ensures)
-    (g.M.Machine.events c.run.new.self) c.into_journal-in-Ok-wrote.result.items (g.M.Machine.world c.run.new.self) c.in-Ok-run.ensures.whole c.in-Ok-run.ensures.world c.into_journal-in-Ok-wrote.ensures
+    c.in-Ok-run_core.core.journal c.into_journal.result.items (world_of (story c.in-Ok-run_core.core)) c.in-Ok-run_core.ensures.run c.in-Ok-run_core.ensures.world c.into_journal.ensures
     c.deref-2.result.now (c.deref-2.ensures.value ∙ c.requires.read.commands_are) c.args.ports.now c.requires.ports
     c.deref-3.result.now ((c.deref-3.ensures.value ∙ c.in-Ok.ensures ∙ ap (map (λ (capture : Capture). capture.cut)) c.deref.ensures.value) ∙ ap (map (λ (capture : Capture). capture.cut)) c.requires.read.captures_are)
     c.len-of.result (omega (arith, c.len-of.ensures, c.in-Ok-inputs.inputs.ok.0))
@@ -68,14 +60,14 @@ returns-in-Ok-wrote g c =
 
 pub returns : goal.returns
 returns g c =
-    write_stops (g.M.Machine.kinds c.args.machine) c.args.words.now
+    write_stops (map (λ b. kind_of (g.B.Node.state b)) c.args.stock.items) c.args.words.now
     (outside (storing (g.O.Sink.contents c.args.out.now) (g.F.Files.contents c.args.files.now)) (storing (g.O.Sink.contents c.write_all-wrote.new.out) (g.F.Files.contents c.write_all-wrote.new.files))
     (counting (g.O.Sink.faults c.args.out.now) (g.F.Files.faults c.args.files.now)) (counting (g.O.Sink.faults c.write_all-wrote.new.out) (g.F.Files.faults c.write_all-wrote.new.files)))
     c.requires.read.found c.requires.read.is_found c.requires.read.fine c.in-Ok-inputs.inputs.items
     (inputs_found (g.F.Files.contents c.args.files.now) c.args.words.now c.args.read.script.script c.args.read.script.commands.items c.args.read.captures.items
-    (g.M.Machine.kinds c.args.machine) c.requires.form c.requires.read
+    (map (λ b. kind_of (g.B.Node.state b)) c.args.stock.items) c.requires.form c.requires.read
     c.know_inputs.ensures.held c.know_inputs.ensures.script c.know_inputs.ensures.fit c.know_inputs.ensures.timed c.in-Ok-inputs.inputs.items c.in-Ok-inputs.ensures)
-    (g.M.Machine.events c.run.new.self) c.into_journal-in-Err.result.items (g.M.Machine.world c.run.new.self) c.in-Ok-run.ensures.whole c.in-Ok-run.ensures.world c.into_journal-in-Err.ensures
+    c.in-Ok-run_core.core.journal c.into_journal-in-Err.result.items (world_of (story c.in-Ok-run_core.core)) c.in-Ok-run_core.ensures.run c.in-Ok-run_core.ensures.world c.into_journal-in-Err.ensures
     c.deref-2.result.now (c.deref-2.ensures.value ∙ c.requires.read.commands_are) c.args.ports.now c.requires.ports
     c.deref-3.result.now ((c.deref-3.ensures.value ∙ c.in-Ok.ensures ∙ ap (map (λ (capture : Capture). capture.cut)) c.deref.ensures.value) ∙ ap (map (λ (capture : Capture). capture.cut)) c.requires.read.captures_are)
     c.len-of.result (omega (arith, c.len-of.ensures, c.in-Ok-inputs.inputs.ok.0))

@@ -1,7 +1,8 @@
-use Rattle.std.proofs.Common.{List, ap, refl, sym, ◌∙◌, subst}
+use Rattle.std.proofs.Common.{map, List, ap, refl, sym, ◌∙◌, subst}
 use Rattle.ng_words.specs.declared.port.PortWord.{PortWord}
 use Rattle.ng_words.specs.declared.words.Source.{Source}
 use Rattle.ng_words.specs.declared.words.Source.TheVariants.{FromFiles}
+use Rattle.ng_machine.specs.State.{kind_of}
 use Rattle.ng_run.specs.Parts.{of_files, storing, outside, counting, AllStop}
 use Rattle.ng_run.proofs.Reading.{memory_all}
 use Rattle.ng_run.proofs.Ending.{ends_since, read_stops, memory_refuses}
@@ -9,7 +10,7 @@ use Rattle.ng_run.proofs.top.run_words.Goals as goal
 
 pub returns-in-Ok : goal.returns-in-Ok
 returns-in-Ok g c =
-    ends_since (g.M.Machine.kinds c.args.machine) c.args.words.now (g.O.Sink.contents c.args.out.now) (g.O.Sink.contents c.run_read.new.out)
+    ends_since (map (λ b. kind_of (g.B.Node.state b)) c.args.stock.items) c.args.words.now (g.O.Sink.contents c.args.out.now) (g.O.Sink.contents c.run_read.new.out)
     (g.F.Files.contents c.run_read.new.files) (g.O.Sink.faults c.args.out.now) (g.O.Sink.faults c.run_read.new.out)
     (g.F.Files.faults c.args.files.now) (g.F.Files.faults c.read_files.new.files) (g.F.Files.faults c.run_read.new.files) c.in-Ok.ensures.counts
     (g.F.Files.contents c.args.files.now) (g.F.Files.contents c.read_files.new.files)
@@ -17,7 +18,7 @@ returns-in-Ok g c =
 
 pub returns-in-Err : goal.returns-in-Err
 returns-in-Err g c =
-    read_stops (g.M.Machine.kinds c.args.machine) c.args.words.now (g.O.Sink.contents c.args.out.now)
+    read_stops (map (λ b. kind_of (g.B.Node.state b)) c.args.stock.items) c.args.words.now (g.O.Sink.contents c.args.out.now)
     (g.F.Files.contents c.args.files.now) (g.F.Files.contents c.read_files.new.files)
     (g.F.Files.faults c.args.files.now) (g.F.Files.faults c.read_files.new.files) (g.O.Sink.faults c.args.out.now)
     c.refused.result.status c.refused.result.journal.items c.refused.result.fault c.in-Err.fault
@@ -29,7 +30,7 @@ pub returns-in-Err-read_made : goal.returns-in-Err-read_made
 returns-in-Err-read_made g c =
     let all = memory_all (outside (storing (g.O.Sink.contents c.args.out.now) (g.F.Files.contents c.args.files.now)) (storing (g.O.Sink.contents c.args.out.now) (g.F.Files.contents c.args.files.now))
     (counting (g.O.Sink.faults c.args.out.now) (g.F.Files.faults c.args.files.now)) (counting (g.O.Sink.faults c.args.out.now) (g.F.Files.faults c.args.files.now))) c.args.words.now.source in
-    memory_refuses (g.M.Machine.kinds c.args.machine) c.args.words.now
+    memory_refuses (map (λ b. kind_of (g.B.Node.state b)) c.args.stock.items) c.args.words.now
     (outside (storing (g.O.Sink.contents c.args.out.now) (g.F.Files.contents c.args.files.now)) (storing (g.O.Sink.contents c.args.out.now) (g.F.Files.contents c.args.files.now))
     (counting (g.O.Sink.faults c.args.out.now) (g.F.Files.faults c.args.files.now)) (counting (g.O.Sink.faults c.args.out.now) (g.F.Files.faults c.args.files.now)))
     all.0 all.1 (record { sink = refl; files = refl }) c.refused-in-Err-read_made.result.status c.refused-in-Err-read_made.result.journal.items

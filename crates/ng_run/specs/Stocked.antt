@@ -1,0 +1,25 @@
+-- The blank nodes of a run, and the core that is made of them.
+use Rattle.std.specs.Prelude.{◌≡◌, ℕ, ◌≤◌, true, All, List, length, map}
+use Rattle.ng_base.specs.declared.kind.Kind.{Kind}
+use Rattle.ng_base.specs.declared.kind.Kind.TheVariants.{Ether, Socket}
+use Rattle.ng_base.specs.Kind.{same_kind}
+use Rattle.ng_machine.specs.LowRun.{most_ports}
+use Rattle.ng_machine.specs.State.{State, blank_of, kind_of}
+use Rattle.ng_machine.specs.Stock.{has_kind}
+use Rattle.ng_machine.specs.Words.{times}
+use Rattle.ng_seats.specs.Beginning.{begun_core}
+use Rattle.ng_seats.specs.Calls.{most_boxes}
+use Rattle.ng_seats.specs.CoreStory.{CoreStory}
+use Rattle.ng_words.specs.declared.words.Words.{Words}
+use Rattle.ng_words.specs.Run.{ports_from}
+
+-- blank nodes, with a socket among them, and an ether for each of as many ports as may be
+pub record IsStocked {B : Type 0} (state : B → State) (stock : List B) : Type 0 where
+  pub blank : All (λ b. state b ≡ blank_of (kind_of (state b))) stock
+  pub socket : has_kind (map (λ b. kind_of (state b)) stock) Socket ≡ true
+  pub ethers : most_ports ≤ times (λ (kind : Kind). same_kind kind Ether) (map (λ b. kind_of (state b)) stock)
+  pub few : length stock ≤ most_boxes
+
+-- the core as it is made by what the words say, with blank nodes of these kinds and so many seats
+abbrev pub begun_by : List Kind → Words → ℕ → CoreStory
+begun_by kinds words seats = begun_core words.own_name (map (λ port. port.name) (ports_from words.source)) kinds words.budget seats

@@ -1,0 +1,118 @@
+// A core is made and runs all inputs.
+ghost use Rattle.std.specs.Prelude.{◌≡◌, ◌<◌, ◌+◌, List, length, map, IfOk};
+ghost use Rattle.ng_machine.specs.declared.input.Input.{Input as TheInput};
+ghost use Rattle.ng_machine.specs.Laws.{world_after};
+ghost use Rattle.ng_machine.specs.State.{kind_of};
+ghost use Rattle.ng_run.specs.Stocked.{IsStocked, begun_by};
+ghost use Rattle.ng_seats.specs.CoreStory.{story};
+ghost use Rattle.ng_story.specs.Story.{world_of};
+ghost use Rattle.ng_words.specs.Run.{ports_from};
+ghost use Rattle.ng_run.specs.Run.{IsRun, MayRun, setting_of};
+
+use crate::names::port_names;
+use ng_base::NoMemory;
+use ng_machine::Input;
+use ng_node::Node;
+use ng_outside::Gate;
+use ng_pool::{plain, plainly_is_plain, plainly_is_whole};
+use ng_seats::Core;
+use ng_words::Words;
+use ng_workers::{ran_is_whole, run_workers};
+use std::alloc::Global;
+use std::sync::Wait;
+use std::thread::Threads;
+
+// A core of these blank nodes and so many seats, with the name, the ports and the limit that the words say.
+fn make_core<B: Node>(
+    alloc: Global,
+    words: &Words,
+    stock: Vec<B>,
+    seats: u32,
+) -> Result<Core<B>, NoMemory>
+    requires stocked { IsStocked B.state stock.items }
+    requires may { (inputs : List TheInput) × MayRun (setting_of (map (λ b. kind_of (B.state b)) stock.items) words.now inputs) }
+    requires some { 0 < seats }
+    ensures made { IfOk result (λ core. core ≡ begun_by (map (λ b. kind_of (B.state b)) stock.items) words.now seats) }
+{
+    let ports = port_names(alloc, &words.source)?;
+    let core = Core::new(alloc, words.own_name, ports, stock, words.budget, seats)?;
+    Ok(core)
+}
+
+// One thing after another, by the first of so many seats.
+fn run_plainly<B: Node>(
+    alloc: Global,
+    words: &Words,
+    stock: Vec<B>,
+    inputs: Vec<Input>,
+    seats: u32,
+) -> Result<Core<B>, NoMemory>
+    requires stocked { IsStocked B.state stock.items }
+    requires may { MayRun (setting_of (map (λ b. kind_of (B.state b)) stock.items) words.now inputs.items) }
+    requires seats { seats ≡ words.now.workers + 1 }
+    ensures run { IfOk result (λ core. IsRun (setting_of (map (λ b. kind_of (B.state b)) stock.items) words.now inputs.items) words.now.workers core.journal) }
+    ensures ports { IfOk result (λ core. length (world_of (story core)).ports ≡ length (ports_from words.now.source)) }
+    ensures world { IfOk result (λ core. world_of (story core) ≡ world_after (setting_of (map (λ b. kind_of (B.state b)) stock.items) words.now inputs.items) core.journal) }
+{
+    let mut core = make_core(alloc, words, stock, seats)?;
+    plain(alloc, &mut core, inputs)?;
+    plainly_is_plain();
+    plainly_is_whole();
+    let _journal = core.journal();
+    Ok(core)
+}
+
+// The first seat in this thread, and each worker in a thread of its own.
+fn run_beside<R: Threads + Wait + Sync, B: Node, G: Gate + Sync>(
+    rt: &R,
+    alloc: Global,
+    words: &Words,
+    stock: Vec<B>,
+    inputs: Vec<Input>,
+    seats: u32,
+    gate: &G,
+) -> Result<Core<B>, NoMemory>
+    requires stocked { IsStocked B.state stock.items }
+    requires may { MayRun (setting_of (map (λ b. kind_of (B.state b)) stock.items) words.now inputs.items) }
+    requires seats { seats ≡ words.now.workers + 1 }
+    requires some { 0 < words.now.workers }
+    ensures run { IfOk result (λ core. IsRun (setting_of (map (λ b. kind_of (B.state b)) stock.items) words.now inputs.items) words.now.workers core.journal) }
+    ensures ports { IfOk result (λ core. length (world_of (story core)).ports ≡ length (ports_from words.now.source)) }
+    ensures world { IfOk result (λ core. world_of (story core) ≡ world_after (setting_of (map (λ b. kind_of (B.state b)) stock.items) words.now inputs.items) core.journal) }
+{
+    let begun = make_core(alloc, words, stock, seats)?;
+    let core = run_workers(rt, alloc, begun, seats, inputs, gate)?;
+    ran_is_whole();
+    let _journal = core.journal();
+    Ok(core)
+}
+
+/// A core of these blank nodes runs the inputs by what the words say: without workers one thing after another, else by as many
+/// threads beside this one as there are workers. With workers each item passes the gate between its take and the work on it.
+/// Waits for the threads.
+///
+/// # Errors
+/// `NoMemory` where memory ran out, and for nothing else.
+pub fn run_core<R: Threads + Wait + Sync, B: Node, G: Gate + Sync>(
+    rt: &R,
+    alloc: Global,
+    words: &Words,
+    stock: Vec<B>,
+    inputs: Vec<Input>,
+    gate: &G,
+) -> Result<Core<B>, NoMemory>
+    requires stocked { IsStocked B.state stock.items }
+    requires may { MayRun (setting_of (map (λ b. kind_of (B.state b)) stock.items) words.now inputs.items) }
+    ensures run { IfOk result (λ core. IsRun (setting_of (map (λ b. kind_of (B.state b)) stock.items) words.now inputs.items) words.now.workers core.journal) }
+    ensures ports { IfOk result (λ core. length (world_of (story core)).ports ≡ length (ports_from words.now.source)) }
+    ensures world { IfOk result (λ core. world_of (story core) ≡ world_after (setting_of (map (λ b. kind_of (B.state b)) stock.items) words.now inputs.items) core.journal) }
+{
+    if words.workers == u32::MAX {
+        return Err(NoMemory);
+    }
+    let seats = words.workers + 1;
+    if words.workers == 0 {
+        return run_plainly(alloc, words, stock, inputs, seats);
+    }
+    run_beside(rt, alloc, words, stock, inputs, seats, gate)
+}

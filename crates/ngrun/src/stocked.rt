@@ -1,0 +1,35 @@
+// The top call with the blank nodes of the program.
+ghost use Rattle.std.specs.Prelude.{map, string_bytes, IfOk, OnErr};
+ghost use Rattle.ng_ends.specs.Outside.{Same};
+ghost use Rattle.ng_run.specs.Parts.{storing, outside, counting};
+ghost use Rattle.ng_stock.specs.Stocked.{stocked};
+ghost use Rattle.ngrun.specs.Top.{IsTop};
+
+use crate::top::{Ran, ngtop};
+use ng_base::NoMemory;
+use ng_outside::{Files, Gate, Sink};
+use ng_stock::{stock, stock_suffices};
+use std::alloc::Global;
+use std::sync::Wait;
+use std::thread::Threads;
+
+/// Does what the words ask for with the blank nodes of ng_stock: one socket, 64 ethers and 256 of each other type.
+///
+/// # Errors
+/// `NoMemory` where there is none for the nodes; nothing was written then.
+pub fn run_stocked<R: Threads + Wait + Sync, F: Files, O: Sink, G: Gate + Sync>(
+    rt: &R,
+    alloc: Global,
+    words: &[String],
+    files: &mut F,
+    out: &mut O,
+    gate: &G,
+) -> Result<Ran, NoMemory>
+    ensures top { IfOk result (λ ran. IsTop stocked (map (λ word. string_bytes word) words.now) (outside (storing (O.contents out.old) (F.contents files.old)) (storing (O.contents out.new) (F.contents files.new))
+        (counting (O.faults out.old) (F.faults files.old)) (counting (O.faults out.new) (F.faults files.new))) ran) }
+    ensures same { OnErr result (Same (storing (O.contents out.old) (F.contents files.old)) (storing (O.contents out.new) (F.contents files.new))) }
+{
+    let stock = stock(alloc)?;
+    stock_suffices();
+    Ok(ngtop(rt, alloc, words, files, out, stock, gate))
+}

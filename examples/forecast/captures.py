@@ -1,0 +1,16 @@
+"""Writes what comes in by the trunk em0, and by em1."""
+import sys
+
+sys.path.insert(0, "..")
+from frames import ping, tagged, who_has, write_capture
+
+write_capture(
+    "trunk.pcap",
+    [
+        (1, tagged(who_has(1, 10), 10)),
+        (1.5, tagged(ping(1, 20, 1), 20)),
+        (2, tagged(ping(1, 30, 1), 30)),
+        (2.5, ping(1, 40, 1)),
+    ],
+)
+write_capture("in1.pcap", [(3, ping(10, 1, 1))])
