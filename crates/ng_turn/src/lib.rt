@@ -3,12 +3,14 @@
 //! seat says meanwhile what only that seat may change.
 #![tactic(auto)]
 
+mod backoff;
 mod desked;
 mod held;
 mod pass;
 mod rule;
 mod turn;
 
+pub use backoff::Backoff;
 pub use desked::Desked;
 pub use held::Held;
 pub use pass::Pass;

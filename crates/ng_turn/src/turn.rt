@@ -5,12 +5,11 @@ ghost use Rattle.ng_turn.specs.Rule.{AgreesWith, IsOfSeats, after_pop};
 
 use crate::pass::Ticket;
 use crate::rule::{Deals, Gathers, InTurn, Opens, Puts, Takes, View};
-use crate::{Desked, Held, Pass};
+use crate::{Backoff, Desked, Held, Pass};
 use crossbeam_queue::RuledArrayQueue;
 use std::alloc::Global;
 use std::snapshot::Snapshot;
 use std::sync::Wait;
-use std::thread;
 
 pub(crate) type Place<T> = RuledArrayQueue<T, View<T, <T as Desked>::Desk>, InTurn>;
 
@@ -135,11 +134,12 @@ fn wait_and_pop<T: Desked + Drop, R: Wait>(rt: &R, place: &Place<T>, ticket: &mu
     ensures view { view ticket.new ≡ after_pop result (view ticket.old) }
     ensures desks { AgreesWith T.desk result (view ticket.old) }
 {
+    let mut backoff = Backoff::new();
     for _ in rt.forever() {
         if let Some(value) = place.try_pop_as::<Takes>(ticket) {
             return value;
         }
-        thread::yield_now();
+        backoff.pause();
     }
     unreachable!()
 }

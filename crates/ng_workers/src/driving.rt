@@ -15,11 +15,10 @@ use ng_machine::Input;
 use ng_node::Node;
 use ng_outside::Gate;
 use ng_seats::Core;
-use ng_turn::{Pass, Turn};
+use ng_turn::{Backoff, Pass, Turn};
 use ng_world::{Done, Work};
 use std::alloc::Global;
 use std::sync::Wait;
-use std::thread;
 
 // One holding: what the seat brings is applied, what may be fed is fed, and the seat takes what is next or closes the core. A
 // node that goes is dropped after it.
@@ -48,7 +47,8 @@ fn hold<R: Wait, B: Node>(
     (pass, next)
 }
 
-// One holding, and the work on what was taken in it. Where there is nothing to do other threads may run.
+// One holding, and the work on what was taken in it. Where there is nothing to do other threads may run, the longer the more
+// often there was nothing since the last work.
 fn step<R: Wait, B: Node, G: Gate>(
     rt: &R,
     alloc: Global,
@@ -57,6 +57,7 @@ fn step<R: Wait, B: Node, G: Gate>(
     unfed: &mut Unfed,
     gate: &G,
     done: Option<Done<B>>,
+    idle: &mut Backoff,
 ) -> Step<Pass<Core<B>>, Option<Done<B>>>
     requires turn { IsOf turn.now pass }
     requires seat { seat_of pass ≡ 0 }
@@ -71,9 +72,12 @@ fn step<R: Wait, B: Node, G: Gate>(
 {
     let (pass, next) = hold(rt, alloc, turn, pass, unfed, done);
     match next {
-        Next::Taken(taken) => attend(rt, alloc, turn, pass, gate, taken),
+        Next::Taken(taken) => {
+            *idle = Backoff::new();
+            attend(rt, alloc, turn, pass, gate, taken)
+        }
         Next::Nothing => {
-            thread::yield_now();
+            idle.pause();
             Step::Goes(pass, None)
         }
         Next::End => Step::Ends(pass),
@@ -106,8 +110,9 @@ pub fn drive<R: Wait, B: Node, G: Gate>(
 {
     let mut unfed = Unfed::new(inputs);
     let mut done = None;
+    let mut idle = Backoff::new();
     for _ in rt.forever() {
-        match step(rt, alloc, turn, pass, &mut unfed, gate, done) {
+        match step(rt, alloc, turn, pass, &mut unfed, gate, done, &mut idle) {
             Step::Goes(next, brings) => {
                 pass = next;
                 done = brings;

@@ -12,11 +12,10 @@ use crate::step::Step;
 use ng_node::Node;
 use ng_outside::Gate;
 use ng_seats::Core;
-use ng_turn::{Pass, Turn};
+use ng_turn::{Backoff, Pass, Turn};
 use ng_world::{Done, Work};
 use std::alloc::Global;
 use std::sync::Wait;
-use std::thread;
 
 // One holding: what the seat brings is applied, and it takes what is next. A node that goes is dropped after it.
 fn hold<R: Wait, B: Node>(
@@ -42,7 +41,8 @@ fn hold<R: Wait, B: Node>(
     (pass, next)
 }
 
-// One holding, and the work on what was taken in it. A seat that finds nothing lets other threads run.
+// One holding, and the work on what was taken in it. A seat that finds nothing lets other threads run, the longer the more
+// often it found nothing since its last work.
 fn step<R: Wait, B: Node, G: Gate>(
     rt: &R,
     alloc: Global,
@@ -50,6 +50,7 @@ fn step<R: Wait, B: Node, G: Gate>(
     pass: Pass<Core<B>>,
     gate: &G,
     done: Option<Done<B>>,
+    idle: &mut Backoff,
 ) -> Step<Pass<Core<B>>, Option<Done<B>>>
     requires turn { IsOf turn.now pass }
     requires seat { seat_of pass < (desk pass).seats }
@@ -61,9 +62,12 @@ fn step<R: Wait, B: Node, G: Gate>(
 {
     let (pass, next) = hold(rt, alloc, turn, pass, done);
     match next {
-        Next::Taken(taken) => attend(rt, alloc, turn, pass, gate, taken),
+        Next::Taken(taken) => {
+            *idle = Backoff::new();
+            attend(rt, alloc, turn, pass, gate, taken)
+        }
         Next::Nothing => {
-            thread::yield_now();
+            idle.pause();
             Step::Goes(pass, None)
         }
         Next::End => Step::Ends(pass),
@@ -89,8 +93,9 @@ pub fn worker<R: Wait, B: Node, G: Gate>(
     ensures over { IsOver (desk result) }
 {
     let mut done = None;
+    let mut idle = Backoff::new();
     for _ in rt.forever() {
-        match step(rt, alloc, turn, pass, gate, done) {
+        match step(rt, alloc, turn, pass, gate, done, &mut idle) {
             Step::Goes(next, brings) => {
                 pass = next;
                 done = brings;
