@@ -64,10 +64,11 @@ struct ScriptRun<'a> {
     text: &'a str,
 }
 
-// Files to come, each with room to be written.
+// Files to come, each with room to be written. Slow ones give and take a byte at a time.
 #[derive(Drop)]
 struct Shelf {
     files: Vec<MemFile>,
+    is_slow: bool,
     ghost names: { NamesDiffer files.items },
     ghost rooms: { FitRooms files.items },
 }
@@ -85,7 +86,7 @@ impl Shelf {
             name,
             bytes,
             room,
-            slow: false,
+            slow: self.is_slow,
         })?;
         Ok(())
     }
@@ -100,6 +101,7 @@ impl Shelf {
 fn empty_shelf(alloc: Global) -> Shelf {
     Shelf {
         files: Vec::new(alloc),
+        is_slow: false,
     }
 }
 
@@ -112,13 +114,26 @@ fn words_in(alloc: Global, line: &str) -> Result<Vec<String>, AllocError> {
     Ok(words)
 }
 
-// Files that hold this, and whose call of this number fails.
-fn files_of(alloc: Global, files: &[Held], failing: u64) -> Result<MemFiles, Fail> {
-    let mut shelf = empty_shelf(alloc);
+// Files that hold this, slow ones or not, and whose call of this number fails.
+fn paced_files(
+    alloc: Global,
+    files: &[Held],
+    is_slow: bool,
+    failing: u64,
+) -> Result<MemFiles, Fail> {
+    let mut shelf = Shelf {
+        files: Vec::new(alloc),
+        is_slow,
+    };
     for file in files {
         shelf.add(alloc, file.name, Vec::from_slice(alloc, file.bytes)?, ROOM)?;
     }
     Ok(shelf.into_files(alloc, failing)?)
+}
+
+// Files that hold this, and whose call of this number fails.
+fn files_of(alloc: Global, files: &[Held], failing: u64) -> Result<MemFiles, Fail> {
+    paced_files(alloc, files, false, failing)
 }
 
 // A sink whose call of this number fails.

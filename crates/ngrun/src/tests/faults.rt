@@ -1,9 +1,10 @@
-// Each call of the files and of the output that fails, one at a time, in a run of two ports with a journal.
+// Each call of the files and of the output that fails, one at a time, in a run of two ports with a journal: without workers
+// and with two, and by files and an output that take and give as much as fits, or a byte at a time.
 ghost use Rattle.std.specs.Prelude.{◌<◌};
 
 use super::packets::{A, B, C, IP, capture_of, sent};
 use super::ports::{TEED, TEED_TEXT};
-use super::{Held, file, files_of, holds, sink, words_in};
+use super::{Held, ROOM, file, holds, paced_files, words_in};
 use crate::stocked::run_stocked;
 use crate::top::Ran;
 use ng_base::Event;
@@ -18,10 +19,85 @@ use std::thread::Threads;
 const BEFORE: &[u8] = b"before";
 
 // More calls than such a run makes.
-const MANY: u64 = 1000;
+const MANY: u64 = 3000;
+
+// One way to make the run: its words and its script, the text and how many events the journal has, and whether files and
+// output are slow.
+#[derive(Drop)]
+struct Way {
+    words: &'static str,
+    script: &'static str,
+    text: &'static str,
+    events: usize,
+    is_slow: bool,
+}
+
+const ALONE: &str = "-j journal script em0=in0,out0 em1=in1,out1";
+
+const BY_TWO: &str = "-w 2 -j journal script em0=in0,out0 em1=in1,out1";
+
+// Every journal of this script gives the same text: the last command in front of the mark is fed when the hooks are joined, the
+// packets come behind it, and the tee goes when nothing is pending anymore.
+const TEED_TO_THE_END: &str = "mkpeer em0: tee lower left
+connect em0:lower em1: right lower
+name em0:lower t
+@end
+shutdown t:
+list
+";
+
+const TEED_TO_THE_END_TEXT: &str = "+ mkpeer em0: tee lower left
++ connect em0:lower em1: right lower
++ name em0:lower t
++ shutdown t:
++ list
+There are 3 total nodes:
+  Name: ngctl           Type: socket          ID: 00000001   Num hooks: 0
+  Name: em0             Type: ether           ID: 00000002   Num hooks: 1
+  Name: em1             Type: ether           ID: 00000003   Num hooks: 1
+summary: fed 9 of 9, applied 22, data refused 0
+dropped: node gone 0, hook gone 0, budget 0
+lost: no peer 0, node gone 0, full 0, spool 0
+graph: nodes 3, hooks 2
+port em0: in 2, left 2, up 0
+port em1: in 2, left 2, up 0
+";
 
 // Inputs that are fed, and items that are applied, each behind a take.
-const EVENTS: usize = 9 + 20 + 20;
+const TEED_EVENTS: usize = 9 + 20 + 20;
+
+const TEED_TO_THE_END_EVENTS: usize = 9 + 22 + 22;
+
+const WAYS: [Way; 4] = [
+    Way {
+        words: ALONE,
+        script: TEED,
+        text: TEED_TEXT,
+        events: TEED_EVENTS,
+        is_slow: false,
+    },
+    Way {
+        words: ALONE,
+        script: TEED,
+        text: TEED_TEXT,
+        events: TEED_EVENTS,
+        is_slow: true,
+    },
+    Way {
+        words: BY_TWO,
+        script: TEED_TO_THE_END,
+        text: TEED_TO_THE_END_TEXT,
+        events: TEED_TO_THE_END_EVENTS,
+        is_slow: false,
+    },
+    Way {
+        words: BY_TWO,
+        script: TEED_TO_THE_END,
+        text: TEED_TO_THE_END_TEXT,
+        events: TEED_TO_THE_END_EVENTS,
+        is_slow: true,
+    },
+];
 
 // What the two ports get, and so what leaves by the other.
 #[derive(Drop)]
@@ -49,21 +125,22 @@ struct Failing {
 fn failing_run(
     rt: &(impl Threads + Wait + Sync),
     alloc: Global,
+    way: &Way,
     call: u64,
     put: u64,
 ) -> Result<Failing, Fail> {
     let captures = both_captures(alloc)?;
-    let words = words_in(alloc, "-j journal script em0=in0,out0 em1=in1,out1")?;
+    let words = words_in(alloc, way.words)?;
     let given = [
-        file("script", TEED.as_bytes()),
+        file("script", way.script.as_bytes()),
         file("in0", &captures.in0),
         file("in1", &captures.in1),
         file("out0", BEFORE),
         file("out1", BEFORE),
         file("journal", BEFORE),
     ];
-    let mut files = files_of(alloc, &given, call)?;
-    let mut out = sink(alloc, put)?;
+    let mut files = paced_files(alloc, &given, way.is_slow, call)?;
+    let mut out = MemSink::new(alloc, ROOM, way.is_slow, [put].to_vec(alloc)?)?;
     let Ran::Run(ended) = run_stocked(rt, alloc, &words, &mut files, &mut out, &OpenGate)? else {
         return Err(Fail::new("no run"));
     };
@@ -73,6 +150,11 @@ fn failing_run(
         out,
         ended,
     })
+}
+
+// Whether the output took the whole text.
+fn has_text(out: &MemSink, way: &Way) -> bool {
+    out.bytes() == way.text.as_bytes()
 }
 
 // A journal as a file.
@@ -133,13 +215,33 @@ fn holds_all(files: &MemFiles, out0: &[u8], out1: &[u8], journal: &[u8]) -> bool
         && holds(files, &file("journal", journal))
 }
 
+// Which of the failing calls that have a name were met.
+#[derive(Drop)]
+struct Met {
+    // `fresh` of an OUT: the file is as it was.
+    fresh: bool,
+    // The second `append` of the journal, after the first took one byte.
+    second_append: bool,
+}
+
+impl Met {
+    fn look(&mut self, failing: &Failing, which: Which) {
+        let holds_before = holds(&failing.files, &file("out0", BEFORE));
+        self.fresh |= which == Which::Leaving(0) && holds_before;
+        let begun = holds(&failing.files, &file("journal", b"n"));
+        self.second_append |= which == Which::Journal && begun;
+    }
+}
+
 // Compares what stands after such a run whose call of the files failed, and tells whether one did.
 fn check_call(
     rt: &(impl Abort + Threads + Wait + Sync),
     alloc: Global,
+    way: &Way,
     call: u64,
+    met: &mut Met,
 ) -> Result<bool, Fail> {
-    let failing = failing_run(rt, alloc, call, 0)?;
+    let failing = failing_run(rt, alloc, way, call, 0)?;
     let ended = &failing.ended;
     let files = &failing.files;
     let journal = journal_of(alloc, &ended.journal)?;
@@ -159,28 +261,45 @@ fn check_call(
         Some(Fault::WriteFault(which)) => {
             assert_eq!(rt; ended.status, 74, "call {call}");
             assert!(rt; is_cut_at(&failing, which, journal.as_str()), "call {call}");
+            met.look(&failing, which);
         }
         Some(_) => return Err(Fail::new("another fault")),
     }
-    assert_eq!(rt; ended.journal.len(), EVENTS, "call {call}");
-    assert_eq!(rt;
-        str::from_utf8(failing.out.bytes())?,
-        TEED_TEXT,
-        "call {call}"
-    );
+    assert_eq!(rt; ended.journal.len(), way.events, "call {call}");
+    assert!(rt; has_text(&failing.out, way), "call {call}");
     Ok(ended.fault.is_some())
+}
+
+// Goes through the calls of the files by one way, and tells how many there are.
+fn check_calls(
+    rt: &(impl Abort + Threads + Wait + Sync),
+    alloc: Global,
+    way: &Way,
+    met: &mut Met,
+) -> Result<u64, Fail> {
+    for call in 1..MANY {
+        if !check_call(rt, alloc, way, call, met)? {
+            return Ok(call - 1);
+        }
+    }
+    Err(Fail::new("some call fails again and again"))
 }
 
 #[test]
 fn each_call_of_the_files_may_fail(rt: HostRuntime) -> Result<(), Fail> {
-    for call in 1..MANY {
-        if !check_call(&rt, rt.alloc(), call)? {
-            // The script and the captures are read to their ends, and three files are written.
-            assert!(rt; call > 3 + 3 * 2, "{call} calls");
-            return Ok(());
-        }
+    for way in &WAYS {
+        let mut met = Met {
+            fresh: false,
+            second_append: false,
+        };
+        let calls = check_calls(&rt, rt.alloc(), way, &mut met)?;
+        // The script and the captures are read to their ends, and three files are written.
+        let least = if way.is_slow { 500 } else { 3 + 3 * 2 };
+        assert!(rt; calls >= least, "{calls} calls of {}", way.words);
+        assert!(rt; met.fresh);
+        assert_eq!(rt; met.second_append, way.is_slow);
     }
-    Err(Fail::new("some call fails again and again"))
+    Ok(())
 }
 
 // The first lines of a text.
@@ -198,32 +317,43 @@ fn first_lines(alloc: Global, text: &str, count: u64) -> Result<String, AllocErr
     Ok(lines)
 }
 
+// Whether the output took as many puts as there were before the one that failed: a byte each, or a line.
+fn is_cut_before(alloc: Global, way: &Way, taken: &[u8], put: u64) -> Result<bool, Fail>
+    requires { 0 < put }
+{
+    if way.is_slow {
+        let is_so = way.text.as_bytes().starts_with(taken);
+        return Ok(is_so && taken.len() as u64 == put - 1);
+    }
+    let text = first_lines(alloc, way.text, put - 1)?;
+    Ok(taken == text.as_bytes())
+}
+
 // Compares what stands after such a run whose put failed, and tells whether one did.
 fn check_put(
     rt: &(impl Abort + Threads + Wait + Sync),
     alloc: Global,
+    way: &Way,
     put: u64,
 ) -> Result<bool, Fail>
     requires { 0 < put }
 {
-    let failing = failing_run(rt, alloc, 0, put)?;
+    let failing = failing_run(rt, alloc, way, 0, put)?;
     let ended = &failing.ended;
-    assert_eq!(rt; ended.journal.len(), EVENTS, "put {put}");
+    assert_eq!(rt; ended.journal.len(), way.events, "put {put}");
     if ended.fault.is_none() {
         assert_eq!(rt; ended.status, 0);
-        assert_eq!(rt; str::from_utf8(failing.out.bytes())?, TEED_TEXT);
+        assert!(rt; has_text(&failing.out, way));
         return Ok(false);
     }
-    let text = first_lines(alloc, TEED_TEXT, put - 1)?;
     assert_eq!(rt; ended.status, 74, "put {put}");
     assert_eq!(rt;
         ended.fault,
         Some(Fault::WriteFault(Which::Sink)),
         "put {put}"
     );
-    assert_eq!(rt;
-        str::from_utf8(failing.out.bytes())?,
-        text.as_str(),
+    assert!(rt;
+        is_cut_before(alloc, way, failing.out.bytes(), put)?,
         "put {put}"
     );
     assert!(rt;
@@ -233,14 +363,27 @@ fn check_put(
     Ok(true)
 }
 
-#[test]
-fn each_put_of_the_text_may_fail(rt: HostRuntime) -> Result<(), Fail> {
+// Goes through the puts of the text by one way, and tells how many there are.
+fn check_puts(
+    rt: &(impl Abort + Threads + Wait + Sync),
+    alloc: Global,
+    way: &Way,
+) -> Result<u64, Fail> {
     for put in 1..MANY {
-        if !check_put(&rt, rt.alloc(), put)? {
-            // Each line is put by itself.
-            assert_eq!(rt; put, 16);
-            return Ok(());
+        if !check_put(rt, alloc, way, put)? {
+            return Ok(put - 1);
         }
     }
     Err(Fail::new("some put fails again and again"))
+}
+
+#[test]
+fn each_put_of_the_text_may_fail(rt: HostRuntime) -> Result<(), Fail> {
+    for way in &WAYS {
+        let puts = check_puts(&rt, rt.alloc(), way)?;
+        // Each line is put by itself, and by a slow output each byte is.
+        let all = if way.is_slow { way.text.len() } else { 15 };
+        assert_eq!(rt; puts, all as u64, "{}", way.words);
+    }
+    Ok(())
 }
