@@ -451,7 +451,7 @@ module _ (Presumed : Type 0) (given : RunInput) where
           (sym (fed_quietly quiet))
           (subst (λ (k : ℕ). InShape Presumed given (at.world.fed + 1) k (feed_input given w input))
           (sym (applies_quietly quiet)) M)
-  shape_event budget seats at (Take id seat) few nodes a K h = h
+  shape_event budget seats at (Take seat id) few nodes a K h = h
   shape_event budget seats at (Back id) few nodes a K h = h
   shape_event budget seats at (Apply id) few nodes a K h =
       let t = held_item at.world at.taken id K.sound a in

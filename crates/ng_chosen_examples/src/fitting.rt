@@ -22,7 +22,7 @@ fn fits(input: &Input, ports: usize) -> bool
     ensures { result ≡ fits_input ports input.now }
 {
     match input {
-        Input::Command(command) | Input::Late(command) => fits_what(&command.what),
+        Input::Command(command) | Input::Late(command) => fits_what(&command.get().what),
         Input::Packet { port, packet, .. } => {
             (*port as usize) < ports && packet.bytes().len() <= MAX_PACKET_LEN
         }

@@ -1,6 +1,6 @@
 // Inputs of the examples.
 use ng_base::{Packet, Stamp};
-use ng_machine::{Command, Input};
+use ng_machine::{BoxedCommand, Command, Input};
 use ngctl_script::read_script;
 use std::alloc::Global;
 use std::test::Fail;
@@ -21,11 +21,12 @@ fn add_commands(
 ) -> Result<(), Fail> {
     for (_, command) in read_script(alloc, text.as_bytes())?.into_commands() {
         *number = number.saturating_add(1);
-        inputs.push(Input::Command(Command {
+        let numbered = Command {
             number: *number,
             line: command.line,
             what: command.what,
-        }))?;
+        };
+        inputs.push(Input::Command(BoxedCommand::new(alloc, numbered)?))?;
     }
     Ok(())
 }

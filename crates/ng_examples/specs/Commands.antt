@@ -100,7 +100,7 @@ begin ports = start_of (codes "ngctl") ports stock
 -- Events
 
 abbrev pub take : ℕ → ℕ → Event
-take id seat = Take (item_id id) seat
+take id seat = Take seat (item_id id)
 
 abbrev pub apply : ℕ → Event
 apply id = Apply (item_id id)

@@ -4,8 +4,9 @@ ghost use Rattle.ng_machine.specs.declared.input.Input.TheVariants.{Command as C
 ghost use Rattle.ng_feed.specs.Dealing.{turn, due, left, first_when, is_due};
 
 use ng_base::NoMemory;
-use ng_machine::{Command, Input};
+use ng_machine::{BoxedCommand, Command, Input};
 use ngctl_script::{Script, When};
+use std::alloc::Global;
 use std::marker::Model;
 
 /// The commands that were not fed yet, each with the time when it is. A contract sees them as a list.
@@ -13,6 +14,7 @@ use std::marker::Model;
 pub(crate) struct Commands {
     // the last one is the next
     behind: Vec<(When, Command)>,
+    alloc: Global,
 }
 
 impl Model for Commands {
@@ -40,12 +42,12 @@ fn turn_of(when: When, packets: u128) -> u128
 
 impl Commands {
     /// All commands of a script.
-    pub fn of(script: Script) -> Commands
+    pub fn of(alloc: Global, script: Script) -> Commands
         ensures { result ≡ script }
     {
         let mut behind = script.into_commands();
         behind.as_mut_slice().reverse();
-        Commands { behind }
+        Commands { behind, alloc }
     }
 
     fn first(&self) -> Option<When>
@@ -91,7 +93,7 @@ impl Commands {
             let Some((_, command)) = self.take() else {
                 break;
             };
-            inputs.push(Input::Command(command))?;
+            inputs.push(Input::Command(BoxedCommand::new(self.alloc, command)?))?;
         }
         Ok(())
     }
@@ -104,7 +106,7 @@ impl Commands {
         ensures { OnOk result (inputs.new.items ≡ inputs.old.items ++ map (λ timed. LateInput timed.1) self.old) }
     {
         while let Some((_, command)) = self.take() {
-            inputs.push(Input::Late(command))?;
+            inputs.push(Input::Late(BoxedCommand::new(self.alloc, command)?))?;
         }
         Ok(())
     }

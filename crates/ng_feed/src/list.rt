@@ -126,7 +126,7 @@ pub fn inputs(alloc: Global, script: Script, captures: Vec<Capture>) -> Result<V
 {
     let mut queues = queues_of(alloc, captures)?;
     let packets = count(&queues);
-    let mut commands = Commands::of(script);
+    let mut commands = Commands::of(alloc, script);
     let mut inputs = Vec::new(alloc);
     commands.feed_turn(&mut inputs, packets, 0)?;
     commands.feed_turn(&mut inputs, packets, 1)?;

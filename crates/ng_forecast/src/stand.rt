@@ -17,7 +17,7 @@ ghost use Rattle.ng_forecast.specs.Steps.{IsRun, setting_of};
 
 use ng_base::{Event, Name, NoMemory};
 use ng_feed::{Arrival, inputs};
-use ng_machine::Input;
+use ng_machine::{BoxedCommand, Input};
 use ng_node::Node;
 use ng_pcap::Capture;
 use ng_pool::{plain, plainly_is_plain, plainly_is_whole};
@@ -37,7 +37,7 @@ fn first_commands(alloc: Global, script: Script) -> Result<Vec<Input>, NoMemory>
     let mut inputs = Vec::new(alloc);
     for (when, command) in script.into_commands() {
         if when == When::First {
-            inputs.push(Input::Command(command))?;
+            inputs.push(Input::Command(BoxedCommand::new(alloc, command)?))?;
         }
     }
     Ok(inputs)

@@ -157,7 +157,7 @@ pub fn feed_input<B: Node>(
     ensures err { OnErr result ((a : RunState) → Stands state.old a → Stands state.new a) }
 {
     match input {
-        Input::Command(command) | Input::Late(command) => feed_command(alloc, state, command),
+        Input::Command(command) | Input::Late(command) => feed_command(alloc, state, command.get()),
         Input::Packet {
             port,
             stamp,

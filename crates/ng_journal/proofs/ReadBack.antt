@@ -80,7 +80,7 @@ taken_said word id seat (Some n) (Some m) event letter from at is =
     let said = id_said id (number_from 0 most_id id) n refl from in
     let read = read_are_digits 0 most_seat m seat (omega arith) at in
     let few = read.2 in
-    said_as (Take n m) event (word ++ (blank ∷ (id ++ (blank ∷ seat)))) is (record { words = rw (letter, said.digits, read.0) refl; fits = (said.low, omega arith) })
+    said_as (Take m n) event (word ++ (blank ∷ (id ++ (blank ∷ seat)))) is (record { words = rw (letter, said.digits, read.0) refl; fits = (said.low, omega arith) })
 
 take_said : (word id seat : List ℕ) (event : Event) → take_event word id seat ≡ Some event → IsSaid event (word ++ (blank ∷ (id ++ (blank ∷ seat))))
 take_said word id seat event is = elim (cases_Bool (bytes_eq word (codes "T"))) [

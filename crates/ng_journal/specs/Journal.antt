@@ -14,7 +14,7 @@ blank = 0x20
 
 abbrev pub event_words : Event → List ℕ
 event_words Feed = codes "F"
-event_words (Take id seat) = codes "T " ++ (decimal id.0 ++ (blank ∷ decimal seat))
+event_words (Take seat id) = codes "T " ++ (decimal id.0 ++ (blank ∷ decimal seat))
 event_words (Back id) = codes "B " ++ decimal id.0
 event_words (Apply id) = codes "A " ++ decimal id.0
 event_words Stop = codes "S"
@@ -31,7 +31,7 @@ journal_text journal = head ++ (line_feed ∷ flat_map event_line journal)
 -- an event whose numbers fit into its fields, as each of the code's does
 abbrev pub Fits : Event → Type 0
 Fits Feed = Unit {0}
-Fits (Take id seat) = (id.0 < 2 ^ 64) × (seat < 2 ^ 32)
+Fits (Take seat id) = (id.0 < 2 ^ 64) × (seat < 2 ^ 32)
 Fits (Back id) = id.0 < 2 ^ 64
 Fits (Apply id) = id.0 < 2 ^ 64
 Fits Stop = Unit {0}

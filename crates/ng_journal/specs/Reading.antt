@@ -22,7 +22,7 @@ id_of word = option_map (λ n. record { 0 = n }) (number_from 0 most_id word)
 abbrev pub take_of : Option ItemId → Option ℕ → Option Event
 take_of None seat = None
 take_of (Some id) None = None
-take_of (Some id) (Some seat) = Some (Take id seat)
+take_of (Some id) (Some seat) = Some (Take seat id)
 
 abbrev pub plain_event : List ℕ → Option Event
 plain_event word = if bytes_eq word (codes "F") then Some Feed else if bytes_eq word (codes "S") then Some Stop else None

@@ -73,25 +73,25 @@ module _ (s : Story) (left : List Input) (id : ItemId) (seat : ℕ) (G : Goes s 
   abbrev Now : Type 0
   Now = MayTakeNow s.setting.budget s.setting.seats (run_state_of s) id seat
 
-  taking : IsJournal (all_with s left) (s.journal ++ Take id seat ∷ []) → Now
-  taking J = (allowed_now s left (Take id seat) G J).1
+  taking : IsJournal (all_with s left) (s.journal ++ Take seat id ∷ []) → Now
+  taking J = (allowed_now s left (Take seat id) G J).1
 
   -- there is no such seat
-  pub refuses_seat : s.setting.seats ≤ seat → Refuses s left (Take id seat)
+  pub refuses_seat : s.setting.seats ≤ seat → Refuses s left (Take seat id)
   refuses_seat le J = let lt = (taking J).seat_is in absurd (omega arith)
 
   -- nothing is to be taken
-  pub refuses_nothing : has_ended s ≡ false → NothingToTake s → Refuses s left (Take id seat)
+  pub refuses_nothing : has_ended s ≡ false → NothingToTake s → Refuses s left (Take seat id)
   refuses_nothing running (inl ended) J = true≢false (sym ended ∙ running)
   refuses_nothing running (inr (inl spent)) J = let lt = (taking J).within in absurd (omega arith)
   refuses_nothing running (inr (inr never)) J = let T = taking J in never T.item T.may
 
   -- another item is to be taken
-  pub refuses_other : (other : ItemId) → IsSoundStory (with_event s (Take other seat)) → has_ended s ≡ false → other ≢ id → Refuses s left (Take id seat)
+  pub refuses_other : (other : ItemId) → IsSoundStory (with_event s (Take seat other)) → has_ended s ≡ false → other ≢ id → Refuses s left (Take seat id)
   refuses_other other sound running ne J =
       let T = taking J in
       let U : MayTakeNow s.setting.budget s.setting.seats (run_state_of s) other seat =
-      (orderly_back s.setting.given s.setting.budget s.setting.seats (beginning (start s.setting)) s.journal (Take other seat ∷ []) (so_far (with_event s (Take other seat)) sound (open_story s running))).0.1 in
+      (orderly_back s.setting.given s.setting.budget s.setting.seats (beginning (start s.setting)) s.journal (Take seat other ∷ []) (so_far (with_event s (Take seat other)) sound (open_story s running))).0.1 in
       let a : id.0 ≤ U.item.id.0 = T.least U.item U.may in
       let b : other.0 ≤ T.item.id.0 = U.least T.item T.may in
       let c : U.item.id.0 ≡ other.0 = ap (λ (i : ItemId). i.0) U.item_is in
@@ -111,7 +111,7 @@ job_now : (s : Story) (seat : ℕ) → IsSoundStory s → has_ended s ≡ false 
 job_now s seat sound running = jobs_stand s seat (so_far s sound (open_story s running))
 
 -- a seat that has an item takes none
-pub refuses_busy : (s : Story) (left : List Input) (id : ItemId) (seat : ℕ) → Goes s left → IsSoundStory s → has_ended s ≡ false → (story_job s seat ≡ Idle → ⊥) → Refuses s left (Take id seat)
+pub refuses_busy : (s : Story) (left : List Input) (id : ItemId) (seat : ℕ) → Goes s left → IsSoundStory s → has_ended s ≡ false → (story_job s seat ≡ Idle → ⊥) → Refuses s left (Take seat id)
 refuses_busy s left id seat G sound running busy J =
     let t = at_work (run_state_of s) seat (story_job s seat) (job_now s seat sound running) busy in
     (taking s left id seat G J).seat_free t.0 t.1 t.2

@@ -56,6 +56,15 @@ pub fed_ends : (s t : Story) (left rest : List Input) → IsFed s left t rest �
 fed_ends s t [] rest fed = absurd fed
 fed_ends s t (input ∷ left) rest fed = ap has_ended fed.0
 
+pub fed_seats : (s t : Story) (left rest : List Input) → IsFed s left t rest → t.setting.seats ≡ s.setting.seats
+fed_seats s t [] rest fed = absurd fed
+fed_seats s t (input ∷ left) rest fed = ap (λ (x : Story). x.setting.seats) fed.0
+
+-- what holds where the input was fed and where it wasn't
+pub either : {A : Type 0} (fed : Bool) → (fed ≡ true → A) → (fed ≡ false → A) → A
+either true t f = t refl
+either false t f = f refl
+
 -- A CLOSED CORE, where so many inputs are left
 
 is_some_true : (o : Option Bool) → unwrap_or o false ≡ true → o ≡ Some true

@@ -13,10 +13,9 @@ ghost use Rattle.ng_story.specs.Story.{AreFitFor, has_ended, with_event};
 ghost use Rattle.ng_world.specs.Handed.{item_of, job_with};
 
 use crate::closing::close;
-use crate::unfed::Unfed;
 use ng_base::{Event, ItemId, NoMemory};
 use ng_node::Node;
-use ng_pool::work;
+use ng_pool::{Unfed, work};
 use ng_seats::Core;
 use ng_world::Work;
 use std::alloc::Global;
@@ -89,8 +88,8 @@ fn take<B: Node>(
     requires holds { HoldsJobs B.state held.old (story core.old) }
     requires seats { length held.old ≡ core.old.seats }
     requires goes { Goes (story core.old) unfed.now }
-    ensures follows { IfOk result (λ yes. yes ≡ true → Follows (story core.old) unfed.now (by.Take id seat) (story core.new) unfed.now) }
-    ensures refuses { IfOk result (λ yes. yes ≡ false → Refuses (story core.old) unfed.now (by.Take id seat)) }
+    ensures follows { IfOk result (λ yes. yes ≡ true → Follows (story core.old) unfed.now (by.Take seat id) (story core.new) unfed.now) }
+    ensures refuses { IfOk result (λ yes. yes ≡ false → Refuses (story core.old) unfed.now (by.Take seat id)) }
     ensures holds { IfOk result (λ yes. yes ≡ true → HoldsJobs B.state held.new (story core.new)) }
     ensures setting { (story core.new).setting ≡ (story core.old).setting }
     ensures seats { core.new.seats ≡ core.old.seats }

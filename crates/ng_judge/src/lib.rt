@@ -6,7 +6,6 @@ mod closing;
 mod following;
 mod judging;
 mod laws;
-mod unfed;
 mod verdict;
 
 pub use judging::judge;

@@ -530,7 +530,7 @@ known_event ports given budget seats at Feed fit a K L = by (slice_get given.inp
         let M : KnownSome B ports w = known_outside B at.world.command ports at.world w refl refl refl L.told L.left L in
         let N = known_input B ports given w input (fits_at ports given.inputs at.world.fed input fit e) may M in
         subst (λ (n : ℕ). Knows n (feed_input given w input).command ports (feed_input given w input)) (sym (ap length (nodes_quietly (input_quietly given w input)))) N
-known_event ports given budget seats at (Take id seat) fit a K L = L
+known_event ports given budget seats at (Take seat id) fit a K L = L
 known_event ports given budget seats at (Back id) fit a K L = L
 known_event ports given budget seats at (Apply id) fit a K L = known_apply ports at.world at.taken id a K.sound L
 known_event ports given budget seats at Stop fit a K L = record {

@@ -1036,7 +1036,7 @@ low_event P given budget seats at Feed lb lc fit a K C N L = by (slice_get given
         let X : Sizes P (lines_fed given v) v = subst (λ (n : ℕ). Sizes P n v) (sym lines) Y in
         let all = take_fewer is_command v.fed given.inputs in
         record { sizes = λ _. X; low = low_of P (lines_fed given v) v (omega arith) (omega arith) X }
-low_event P given budget seats at (Take id seat) lb lc fit a K C N L = record { sizes = L.sizes; low = L.low }
+low_event P given budget seats at (Take seat id) lb lc fit a K C N L = record { sizes = L.sizes; low = L.low }
 low_event P given budget seats at (Back id) lb lc fit a K C N L = record { sizes = L.sizes; low = L.low }
 low_event P given budget seats at (Apply id) lb lc fit a K C N L =
     let w = at.world in

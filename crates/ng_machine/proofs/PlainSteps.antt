@@ -35,7 +35,7 @@ pub data Rounds (given : RunInput) (budget : ℕ) : RunState → List Event → 
   Ends : {at : RunState} → IsQuiet given at.world → Rounds given budget at []
   Stops : {at : RunState} → AllowedEvent given budget 1 at Stop → Rounds given budget at (Stop ∷ [])
   Feeds : {at : RunState} {es : List Event} → at.world.pending ≡ [] → AllowedEvent given budget 1 at Feed → Rounds given budget (after given at Feed) es → Rounds given budget at (Feed ∷ es)
-  Serves : {at : RunState} {id : ItemId} {seat : ℕ} {es : List Event} → MayTakeNow budget 1 at id seat → Rounds given budget (after given (after given at (Take id seat)) (Apply id)) es → Rounds given budget at (Take id seat ∷ Apply id ∷ es)
+  Serves : {at : RunState} {id : ItemId} {seat : ℕ} {es : List Event} → MayTakeNow budget 1 at id seat → Rounds given budget (after given (after given at (Take seat id)) (Apply id)) es → Rounds given budget at (Take seat id ∷ Apply id ∷ es)
 
 -- From the definition to the rounds
 
@@ -74,17 +74,17 @@ rounds given budget at (Back id ∷ es) none on P = absurd P.plainly.0
 rounds given budget at (Apply id ∷ es) none on P = absurd (nothing_in Taken at.taken P.orderly.0.1.0 none P.orderly.0.1.1)
 rounds given budget at (Stop ∷ []) none on P = Stops P.orderly.0.1
 rounds given budget at (Stop ∷ e ∷ es) none on P = absurd (true≢false P.orderly.1.0.0)
-rounds given budget at (Take id seat ∷ []) none on P = absurd (nothing_in Item at.world.pending P.orderly.0.1.item (P.whole.quiet on).idle P.orderly.0.1.may.pending)
-rounds given budget at (Take id seat ∷ Feed ∷ es) none on P = absurd (pushed_some at.taken (taking id seat) P.plainly.1.0.0)
-rounds given budget at (Take id seat ∷ Take i k ∷ es) none on P = absurd (pushed_some at.taken (taking id seat) P.plainly.1.0)
-rounds given budget at (Take id seat ∷ Back i ∷ es) none on P = absurd P.plainly.1.0
-rounds given budget at (Take id seat ∷ Stop ∷ es) none on P = absurd (pushed_some at.taken (taking id seat) P.plainly.1.0)
-rounds given budget at (Take id seat ∷ Apply i ∷ es) none on P =
-    let b = after given at (Take id seat) in
+rounds given budget at (Take seat id ∷ []) none on P = absurd (nothing_in Item at.world.pending P.orderly.0.1.item (P.whole.quiet on).idle P.orderly.0.1.may.pending)
+rounds given budget at (Take seat id ∷ Feed ∷ es) none on P = absurd (pushed_some at.taken (taking id seat) P.plainly.1.0.0)
+rounds given budget at (Take seat id ∷ Take k i ∷ es) none on P = absurd (pushed_some at.taken (taking id seat) P.plainly.1.0)
+rounds given budget at (Take seat id ∷ Back i ∷ es) none on P = absurd P.plainly.1.0
+rounds given budget at (Take seat id ∷ Stop ∷ es) none on P = absurd (pushed_some at.taken (taking id seat) P.plainly.1.0)
+rounds given budget at (Take seat id ∷ Apply i ∷ es) none on P =
+    let b = after given at (Take seat id) in
     let e : id ≡ i = applied_alone at.taken (taking id seat) i none P.orderly.1.0.1 in
     let done : without b.taken i ≡ [] = subst (λ (n : ItemId). without (at.taken ++ taking id seat ∷ []) n ≡ []) e (without_one at.taken id seat none) in
-    let rest = rounds given budget (after given b (Apply i)) es done on (later given budget b (Apply i) es (later given budget at (Take id seat) (Apply i ∷ es) P)) in
-    subst (λ (n : ItemId). Rounds given budget (after given b (Apply n)) es → Rounds given budget at (Take id seat ∷ Apply n ∷ es)) e (λ r. Serves P.orderly.0.1 r) rest
+    let rest = rounds given budget (after given b (Apply i)) es done on (later given budget b (Apply i) es (later given budget at (Take seat id) (Apply i ∷ es) P)) in
+    subst (λ (n : ItemId). Rounds given budget (after given b (Apply n)) es → Rounds given budget at (Take seat id ∷ Apply n ∷ es)) e (λ r. Serves P.orderly.0.1 r) rest
 
 -- What each kind of round says of the run
 
@@ -147,11 +147,11 @@ one_from given budget at j k (Serves {id = id} {seat = seat} a d) (Feeds f b c) 
 one_from given budget at j k (Serves {id = id} {seat = seat} {es = es} a d) (Serves {id = other} {seat = seen} {es = fs} b c) =
     let e : id ≡ other = least_is_one budget at id other seat seen a b in
     let s : seat ≡ seen = seat_is_one budget at id other seat seen a b in
-    let c' : Rounds given budget (after given (after given at (Take id seat)) (Apply id)) fs =
-    subst (λ (n : ℕ). Rounds given budget (after given (after given at (Take id n)) (Apply id)) fs) (sym s)
-    (subst (λ (i : ItemId). Rounds given budget (after given (after given at (Take i seen)) (Apply i)) fs) (sym e) c) in
-    let rest = one_from given budget (after given (after given at (Take id seat)) (Apply id)) es fs d c' in
-    λ i. Take (e i) (s i) ∷ Apply (e i) ∷ rest i
+    let c' : Rounds given budget (after given (after given at (Take seat id)) (Apply id)) fs =
+    subst (λ (n : ℕ). Rounds given budget (after given (after given at (Take n id)) (Apply id)) fs) (sym s)
+    (subst (λ (i : ItemId). Rounds given budget (after given (after given at (Take seen i)) (Apply i)) fs) (sym e) c) in
+    let rest = one_from given budget (after given (after given at (Take seat id)) (Apply id)) es fs d c' in
+    λ i. Take (s i) (e i) ∷ Apply (e i) ∷ rest i
 
 pub plain_is_one : PlainIsOne
 plain_is_one s j k p q =

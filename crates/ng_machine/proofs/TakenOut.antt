@@ -24,13 +24,13 @@ use Rattle.ng_machine.proofs.Stilled.{remains_run}
 
 pub stays_out : StaysOut
 stays_out s j k p seat o hp unended =
-    let K = kept_before s j (Take p.id seat ∷ k) o in
-    let back = orderly_back s.given s.budget s.seats (beginning (start s)) j (Take p.id seat ∷ k) o in
+    let K = kept_before s j (Take seat p.id ∷ k) o in
+    let back = orderly_back s.given s.budget s.seats (beginning (start s)) j (Take seat p.id ∷ k) o in
     let a = run_state_after s j in
-    let b = after s.given a (Take p.id seat) in
-    let L : KeptAt s.budget b = kept_event s.given s.budget s.seats a (Take p.id seat) back.0.1 K in
+    let b = after s.given a (Take seat p.id) in
+    let L : KeptAt s.budget b = kept_event s.given s.budget s.seats a (Take seat p.id) back.0.1 K in
     let m = remains_run s.given s.budget s.seats b k p (taking p.id seat) back.1 L unended hp (in_back (taking p.id seat) a.taken (taking p.id seat ∷ []) (inl refl)) refl in
-    let whole = sym (after-append s.given (beginning (start s)) j (Take p.id seat ∷ k)) in
+    let whole = sym (after-append s.given (beginning (start s)) j (Take seat p.id ∷ k)) in
     record {
       pending = subst (λ (z : RunState). Has p z.world.pending) whole m.is_pending;
       taken = subst (λ (z : RunState). Has (taken_by p.id seat) z.taken) whole m.is_out;
@@ -63,16 +63,16 @@ taken_since given budget seats at (e ∷ es) id seat o h = ⊎_elim
     by (Back other) a none t = before (Back other) refl none (of_filter (λ t. not (is_of other t)) (taken_by id seat) at.taken t).0
     by (Apply other) a none t = before (Apply other) refl none (of_filter (λ t. not (is_of other t)) (taken_by id seat) at.taken t).0
     by Stop a none t = before Stop refl none t
-    by (Take other by_seat) a none t = ⊎_elim
+    by (Take by_seat other) a none t = ⊎_elim
         (λ (old : Has (taken_by id seat) at.taken).
         let apart : (other.0 == id.0) ≡ false = (elim (cases_Bool (other.0 == id.0)) [
           | inl same ↦ absurd (a.may.untaken (taken_by id seat, old, sym (item_same other id (eqb-true other.0 id.0 same)) ∙ sym a.item_is))
           | inr differs ↦ differs
         ]) in
-        before (Take other by_seat) (ap (λ (b : Bool). if b then Some by_seat else None) apart) none old)
+        before (Take by_seat other) (ap (λ (b : Bool). if b then Some by_seat else None) apart) none old)
         (λ (new : taken_by id seat ≡ taking other by_seat).
         let same : (other.0 == id.0) ≡ true = eq-eqb other.0 id.0 (sym (ap (λ (x : Taken). x.id.0) new)) in
-        inl (ap (λ (x : Option ℕ). option_or x (taker id (Take other by_seat))) none ∙ ap (λ (b : Bool). if b then Some by_seat else None) same ∙ ap (λ (x : Taken). Some x.seat) (sym new)))
+        inl (ap (λ (x : Option ℕ). option_or x (taker id (Take by_seat other))) none ∙ ap (λ (b : Bool). if b then Some by_seat else None) same ∙ ap (λ (x : Taken). Some x.seat) (sym new)))
         (in_pushed (taken_by id seat) (taking other by_seat) at.taken t)
 
 -- nothing is taken at the beginning
@@ -93,7 +93,7 @@ by_its_taker s j rest e id o is =
   where
     taken : (e : Event) → ends id e ≡ true → AllowedEvent s.given s.budget s.seats (run_state_after s j) e → IsTaken (run_state_after s j).taken id
     taken Feed is a = absurd (true≢false (sym is))
-    taken (Take other seat) is a = absurd (true≢false (sym is))
+    taken (Take seat other) is a = absurd (true≢false (sym is))
     taken (Back other) is a = subst (IsTaken (run_state_after s j).taken) (item_same other id (eqb-true other.0 id.0 is)) a
     taken (Apply other) is a = subst (IsTaken (run_state_after s j).taken) (item_same other id (eqb-true other.0 id.0 is)) a
     taken Stop is a = absurd (true≢false (sym is))

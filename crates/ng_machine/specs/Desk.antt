@@ -83,7 +83,7 @@ has_taken taken id seat = list_any (λ t. is_of id t && t.seat == seat) taken
 
 abbrev pub is_own : List Taken → ℕ → Event → Bool
 is_own taken seat Feed = seat == 0
-is_own taken seat (Take id by) = by == seat
+is_own taken seat (Take by id) = by == seat
 is_own taken seat (Back id) = has_taken taken id seat
 is_own taken seat (Apply id) = has_taken taken id seat
 is_own taken seat Stop = seat == 0
@@ -103,7 +103,7 @@ own_events journal seat = own_events_from [] seat journal
 -- what the seat works on, by the world at its last Take
 abbrev pub job_after : RunState → ℕ → Job → Event → Job
 job_after at seat job Feed = job
-job_after at seat job (Take id by) = if by == seat then job_found at.world (find (has_id id) at.world.pending) else job
+job_after at seat job (Take by id) = if by == seat then job_found at.world (find (has_id id) at.world.pending) else job
 job_after at seat job (Back id) = if has_taken at.taken id seat then Idle else job
 job_after at seat job (Apply id) = if has_taken at.taken id seat then Idle else job
 job_after at seat job Stop = job

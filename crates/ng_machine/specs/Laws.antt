@@ -60,7 +60,7 @@ IsAccounted w = (id : ItemId) → times_done w id + (times_dropped w id + times_
 
 abbrev pub is_apply : ItemId → Event → Bool
 is_apply id Feed = false
-is_apply id (Take other seat) = false
+is_apply id (Take seat other) = false
 is_apply id (Back other) = false
 is_apply id (Apply other) = other.0 == id.0
 is_apply id Stop = false
@@ -93,7 +93,7 @@ IsAlone =
 -- the event ends the taking of this item
 abbrev pub ends : ItemId → Event → Bool
 ends id Feed = false
-ends id (Take other seat) = false
+ends id (Take seat other) = false
 ends id (Back other) = other.0 == id.0
 ends id (Apply other) = other.0 == id.0
 ends id Stop = false
@@ -123,9 +123,9 @@ pub record IsLikeBefore (item : Item) (before now : Option NodeRecord) : Type 0 
 
 abbrev pub IsStill : Type 0
 IsStill =
-    (s : Setting) (journal more : List Event) (item : Item) (seat : ℕ) → IsJournal s (journal ++ Take item.id seat ∷ more)
+    (s : Setting) (journal more : List Event) (item : Item) (seat : ℕ) → IsJournal s (journal ++ Take seat item.id ∷ more)
     → Has item (world_after s journal).pending → list_any (ends item.id) more ≡ false
-    → IsLikeBefore item (node_at (world_after s journal) item.to) (node_at (world_after s (journal ++ Take item.id seat ∷ more)) item.to)
+    → IsLikeBefore item (node_at (world_after s journal) item.to) (node_at (world_after s (journal ++ Take seat item.id ∷ more)) item.to)
 
 -- what is taken is pending
 abbrev pub TakenWaits : Type 0

@@ -21,7 +21,7 @@ feed_or_end given w =
 
 abbrev pub plain_step : RunInput → World → List Item → Stretch
 plain_step given w [] = feed_or_end given w
-plain_step given w (item ∷ items) = record { events = Take item.id 0 ∷ Apply item.id ∷ []; world = apply_item w item }
+plain_step given w (item ∷ items) = record { events = Take 0 item.id ∷ Apply item.id ∷ []; world = apply_item w item }
 
 abbrev pub with_events_before : List Event → Stretch → Stretch
 with_events_before events rest = record { events = events ++ rest.events; world = rest.world }

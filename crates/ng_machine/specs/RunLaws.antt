@@ -18,9 +18,9 @@ pub record IsOut (item : Item) (seat : ℕ) (s : Setting) (journal : List Event)
 
 abbrev pub StaysOut : Type 0
 StaysOut =
-    (s : Setting) (journal more : List Event) (item : Item) (seat : ℕ) → IsJournal s (journal ++ Take item.id seat ∷ more)
+    (s : Setting) (journal more : List Event) (item : Item) (seat : ℕ) → IsJournal s (journal ++ Take seat item.id ∷ more)
     → Has item (world_after s journal).pending → list_any (ends item.id) more ≡ false
-    → IsOut item seat s (journal ++ Take item.id seat ∷ more)
+    → IsOut item seat s (journal ++ Take seat item.id ∷ more)
 
 -- SPENT: where the applied items are as many as may be, nothing is taken.
 abbrev pub SpentTakesNothing : Type 0
@@ -29,7 +29,7 @@ SpentTakesNothing = (s : Setting) (journal : List Event) → IsJournal s journal
 -- BY ITS TAKER: a Back or an Apply is of the seat of the last Take of that item.
 
 abbrev pub taker : ItemId → Event → Option ℕ
-taker id (Take other seat) = if other.0 == id.0 then Some seat else None
+taker id (Take seat other) = if other.0 == id.0 then Some seat else None
 taker id Feed = None
 taker id (Back other) = None
 taker id (Apply other) = None

@@ -18,7 +18,7 @@ mod told;
 mod totals;
 
 pub use body::{Body, Door, Exit, Lane};
-pub use command::{Command, What};
+pub use command::{BoxedCommand, Command, What};
 pub use farewell::Farewell;
 pub use fed::Fed;
 pub use hook::{End, Hook};

@@ -306,7 +306,7 @@ fed_next given w (Some input) A = fed given (record w { fed = w.fed + 1 }) input
 
 event : (given : RunInput) (budget seats : ℕ) (at : RunState) (e : Event) → AllowedEvent given budget seats at e → KeptAt budget at → AllWaitWell at.world → AllWaitWell (after given at e).world
 event given budget seats at Feed a K A = fed_next given at.world (slice_get given.inputs at.world.fed) A
-event given budget seats at (Take id seat) a K A = A
+event given budget seats at (Take seat id) a K A = A
 event given budget seats at (Back id) a K A = A
 event given budget seats at (Apply id) a K A = applied at.world at.taken id a K.sound A
 event given budget seats at Stop a K A = λ p h. absurd h

@@ -40,11 +40,11 @@ holds_set state held s t seat w H others job on ends lt = record {
 }
 
 -- a seat that takes an item could take one
-pub not_skipped : (s : Story) (seat : ℕ) (id : ItemId) (inputs : List Input) → IsSoundStory (with_event s (Take id seat)) → has_ended s ≡ false → story_job s seat ≡ Idle → Skips s inputs (by.Take seat) → ⊥
+pub not_skipped : (s : Story) (seat : ℕ) (id : ItemId) (inputs : List Input) → IsSoundStory (with_event s (Take seat id)) → has_ended s ≡ false → story_job s seat ≡ Idle → Skips s inputs (by.Take seat) → ⊥
 not_skipped s seat id inputs sound running idle = cases
   where
     took : MayTakeNow s.setting.budget s.setting.seats (run_state_of s) id seat
-    took = (orderly_back s.setting.given s.setting.budget s.setting.seats (beginning (start s.setting)) s.journal (Take id seat ∷ []) (so_far (with_event s (Take id seat)) sound (open_story s running))).0.1
+    took = (orderly_back s.setting.given s.setting.budget s.setting.seats (beginning (start s.setting)) s.journal (Take seat id ∷ []) (so_far (with_event s (Take seat id)) sound (open_story s running))).0.1
 
     cases : Skips s inputs (by.Take seat) → ⊥
     cases (inl le) = let lt = took.seat_is in absurd (omega arith)

@@ -49,7 +49,7 @@ ends at seat job id (inr (t, h, mine)) false e = inr (t, to_filter (λ x. not (i
 
 busy_after : (at : RunState) (seat : ℕ) (job : Job) (e : Event) → IsBusy at.taken seat job → IsBusy (taken_after at.taken e) seat (job_after at seat job e)
 busy_after at seat job Feed busy = busy
-busy_after at seat job (Take id by) busy = takes at seat job id by busy (by == seat) refl
+busy_after at seat job (Take by id) busy = takes at seat job id by busy (by == seat) refl
 busy_after at seat job (Back id) busy = ends at seat job id busy (has_taken at.taken id seat) refl
 busy_after at seat job (Apply id) busy = ends at seat job id busy (has_taken at.taken id seat) refl
 busy_after at seat job Stop busy = busy

@@ -53,24 +53,24 @@ pub pushed : (s : Story) (fed : List Input) (events : List Event) (event : Event
 pushed s fed events event = ap (λ (journal : List Event). let r : Story = record s { setting = with_more s.setting fed; journal = journal } in r) (append_assoc s.journal events (event ∷ []))
 
 -- then nothing is taken
-pub none_taken : (s : Story) (id : ItemId) → (run_state_of s).taken ≡ [] → (run_state_of (with_event (with_event s (Take id 0)) (Apply id))).taken ≡ []
+pub none_taken : (s : Story) (id : ItemId) → (run_state_of s).taken ≡ [] → (run_state_of (with_event (with_event s (Take 0 id)) (Apply id))).taken ≡ []
 none_taken s id none =
-    ap (λ (at : RunState). at.taken) (at_more (with_event s (Take id 0)) (Apply id))
-    ∙ ap (λ (at : RunState). without at.taken id) (at_more s (Take id 0))
+    ap (λ (at : RunState). at.taken) (at_more (with_event s (Take 0 id)) (Apply id))
+    ∙ ap (λ (at : RunState). without at.taken id) (at_more s (Take 0 id))
     ∙ without_one (run_state_of s).taken id 0 none
 
 pub going_served : (start : Story) (inputs : List Input) (s t : Story) (left : List Input) → IsSoundStory s → IsServed s t → Going start inputs s left → Going start inputs t left
 going_served start inputs s t left sound (id, served) G =
     let given = (with_more start.setting inputs).given in
     let at = going_at start inputs s left G sound in
-    let took = plainly_push given (run_state_of start) G.events (Take id 0) G.plainly (ap (λ (a : RunState). a.taken) at ∙ G.idle) in record {
+    let took = plainly_push given (run_state_of start) G.events (Take 0 id) G.plainly (ap (λ (a : RunState). a.taken) at ∙ G.idle) in record {
       sound = G.sound;
       unclosed = G.unclosed;
       fed = G.fed;
       parts = G.parts;
-      events = (G.events ++ Take id 0 ∷ []) ++ Apply id ∷ [];
-      story = served ∙ ap (λ (x : Story). with_event (with_event x (Take id 0)) (Apply id)) G.story ∙ ap (λ (x : Story). with_event x (Apply id)) (pushed start G.fed G.events (Take id 0)) ∙ pushed start G.fed (G.events ++ Take id 0 ∷ []) (Apply id);
-      plainly = plainly_push given (run_state_of start) (G.events ++ Take id 0 ∷ []) (Apply id) took tt;
+      events = (G.events ++ Take 0 id ∷ []) ++ Apply id ∷ [];
+      story = served ∙ ap (λ (x : Story). with_event (with_event x (Take 0 id)) (Apply id)) G.story ∙ ap (λ (x : Story). with_event x (Apply id)) (pushed start G.fed G.events (Take 0 id)) ∙ pushed start G.fed (G.events ++ Take 0 id ∷ []) (Apply id);
+      plainly = plainly_push given (run_state_of start) (G.events ++ Take 0 id ∷ []) (Apply id) took tt;
       idle = ap (λ (x : Story). (run_state_of x).taken) served ∙ none_taken s id G.idle;
     }
 
@@ -78,25 +78,25 @@ record Counted (s t : Story) : Type 0 where
   within : (world_of s).applies < s.setting.budget
   more : (world_of t).applies ≡ (world_of s).applies + 1
 
-counted : (s : Story) (id : ItemId) → IsJournal s.setting ((s.journal ++ Take id 0 ∷ []) ++ Apply id ∷ []) → Counted s (with_event (with_event s (Take id 0)) (Apply id))
+counted : (s : Story) (id : ItemId) → IsJournal s.setting ((s.journal ++ Take 0 id ∷ []) ++ Apply id ∷ []) → Counted s (with_event (with_event s (Take 0 id)) (Apply id))
 counted s id J =
-    let u = with_event s (Take id 0) in
+    let u = with_event s (Take 0 id) in
     let b = beginning (beginning_of s.setting) in
     let K : IsJournal s.setting u.journal = orderly_front s.setting.given s.setting.budget s.setting.seats b u.journal (Apply id ∷ []) J in
-    let took : MayTakeNow s.setting.budget s.setting.seats (run_state_of s) id 0 = (orderly_back s.setting.given s.setting.budget s.setting.seats b s.journal (Take id 0 ∷ []) K).0.1 in
+    let took : MayTakeNow s.setting.budget s.setting.seats (run_state_of s) id 0 = (orderly_back s.setting.given s.setting.budget s.setting.seats b s.journal (Take 0 id ∷ []) K).0.1 in
     let out : IsTaken (run_state_of u).taken id = (orderly_back s.setting.given s.setting.budget s.setting.seats b u.journal (Apply id ∷ []) J).0.1 in
     let one = apply_applies (world_of u) (run_state_of u).taken id out (kept_all s.setting u.journal K).sound in
     let within = took.within in record {
       within = omega arith;
-      more = ap (λ (at : RunState). at.world.applies) (at_more u (Apply id)) ∙ one ∙ ap (λ (at : RunState). at.world.applies + 1) (at_more s (Take id 0));
+      more = ap (λ (at : RunState). at.world.applies) (at_more u (Apply id)) ∙ one ∙ ap (λ (at : RunState). at.world.applies + 1) (at_more s (Take 0 id));
     }
 
 pub served_less : (s t : Story) (left : List Input) → IsSoundStory t → t.closed ≡ None → IsServed s t → to_do t left < to_do s left
 served_less s t left sound unclosed (id, served) = subst (λ (x : Story). to_do x left < to_do s left) (sym served) (less (subst IsSoundStory served sound) (ap (λ (x : Story). x.closed) (sym served) ∙ unclosed))
   where
-    less : IsSoundStory (with_event (with_event s (Take id 0)) (Apply id)) → s.closed ≡ None → to_do (with_event (with_event s (Take id 0)) (Apply id)) left < to_do s left
+    less : IsSoundStory (with_event (with_event s (Take 0 id)) (Apply id)) → s.closed ≡ None → to_do (with_event (with_event s (Take 0 id)) (Apply id)) left < to_do s left
     less S open_ =
-        let C = counted s id (so_far (with_event (with_event s (Take id 0)) (Apply id)) S open_) in
+        let C = counted s id (so_far (with_event (with_event s (Take 0 id)) (Apply id)) S open_) in
         let lt = C.within in
         let one = C.more in
         omega arith

@@ -22,7 +22,7 @@ pub record Going (start : Story) (inputs : List Input) (now : Story) (left : Lis
 
 -- an item is taken by the seat 0 and applied at once
 abbrev pub IsServed : Story → Story → Type 0
-IsServed s t = (id : ItemId) × (t ≡ with_event (with_event s (Take id 0)) (Apply id))
+IsServed s t = (id : ItemId) × (t ≡ with_event (with_event s (Take 0 id)) (Apply id))
 
 -- how much there is to do at most: items that may be applied, and inputs
 abbrev pub to_do : Story → List Input → ℕ

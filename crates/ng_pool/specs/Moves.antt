@@ -29,7 +29,7 @@ Skips s inputs (by.Apply seat) = (s.setting.seats ≤ seat) ⊎ (story_job s sea
 -- the move is made. Which item is taken, every core's type keeps: the least that may be.
 abbrev pub Makes : Story → List Input → Move → Story → List Input → Type 0
 Makes s inputs by.Feed t left = IsFed s inputs t left
-Makes s inputs (by.Take seat) t left = (id : ItemId) × (t ≡ with_event s (Take id seat)) × (left ≡ inputs)
+Makes s inputs (by.Take seat) t left = (id : ItemId) × (t ≡ with_event s (Take seat id)) × (left ≡ inputs)
 Makes s inputs (by.Back seat) t left = (t ≡ with_of Back (story_job s seat) s) × (left ≡ inputs)
 Makes s inputs (by.Apply seat) t left = (t ≡ with_of Apply (story_job s seat) s) × (left ≡ inputs)
 

@@ -240,7 +240,7 @@ module _ (limit : ℕ) where
       by (Some input) e =
           timed_input given (record (at.world) { fed = at.world.fed + 1 }) input (every_get (IsBefore limit) given.inputs at.world.fed input all e)
           (same_times at.world _ refl refl refl T)
-  timed_event given at (Take id seat) all T = T
+  timed_event given at (Take seat id) all T = T
   timed_event given at (Back id) all T = T
   timed_event given at (Apply id) all T = timed_apply at.world id T
   timed_event given at Stop all T = record { clock = T.clock; pending = tt; left = T.left }

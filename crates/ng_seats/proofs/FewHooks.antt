@@ -319,7 +319,7 @@ found_few w (Some item) F = applied_few w item (is_hook_gone (node_at w item.to)
 
 step_few : (given : RunInput) (w : World) (e : Event) → AreFewIn w → AreFewIn (step given w e)
 step_few given w Feed F = fed_next given w (slice_get given.inputs w.fed) AreFewIn F (λ v q. subst (λ (n : ℕ). AreFew n v.nodes) (sym (applies_quietly q)) (subst (AreFew w.applies) (sym (nodes_quietly q)) F))
-step_few given w (Take id seat) F = F
+step_few given w (Take seat id) F = F
 step_few given w (Back id) F = F
 step_few given w (Apply id) F = found_few w (find (has_id id) w.pending) F
 step_few given w Stop F = F

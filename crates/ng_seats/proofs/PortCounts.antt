@@ -46,7 +46,7 @@ found_ports w (Some item) = applied_ports w item (is_hook_gone (node_at w item.t
 
 step_ports : (given : RunInput) (w : World) (e : Event) → length (step given w e).ports ≡ length w.ports
 step_ports given w Feed = fed_next given w (slice_get given.inputs w.fed) (λ (v : World). length v.ports ≡ length w.ports) refl (λ v q. ports_quietly q)
-step_ports given w (Take id seat) = refl
+step_ports given w (Take seat id) = refl
 step_ports given w (Back id) = refl
 step_ports given w (Apply id) = found_ports w (find (has_id id) w.pending)
 step_ports given w Stop = refl

@@ -49,11 +49,11 @@ impl<B: Node> Core<B> {
     pub fn take(&mut self, seat: u32) -> Result<Option<Work<B>>, NoMemory>
         requires seat { seat < self.old.seats }
         requires idle { story_job (story self.old) seat ≡ Idle }
-        ensures taken { IfOk result (λ o. IfSome o (λ work. story self.new ≡ with_event (story self.old) (Take (item_of work).id seat))) }
+        ensures taken { IfOk result (λ o. IfSome o (λ work. story self.new ≡ with_event (story self.old) (Take seat (item_of work).id))) }
         ensures work { IfOk result (λ o. IfSome o (λ work. job_with B.state work ≡ story_job (story self.new) seat)) }
         ensures running { IfOk result (λ o. IfSome o (λ work. has_ended (story self.old) ≡ false)) }
         ensures none { IfOk result (λ o. IfNone o ((self.new ≡ self.old) × NothingToTake (story self.old))) }
-        ensures own { IfOk result (λ o. IfSome o (λ work. Gained seat (Take (item_of work).id seat) (job_with B.state work) (story self.old) (story self.new))) }
+        ensures own { IfOk result (λ o. IfSome o (λ work. Gained seat (Take seat (item_of work).id) (job_with B.state work) (story self.old) (story self.new))) }
         ensures err { OnErr result (self.new ≡ self.old) }
         ensures others { Others seat (story self.old) (story self.new) }
     {

@@ -430,7 +430,7 @@ module _ (nodes : List (Option NodeRecord)) (n : ℕ) where
 
   abbrev pub came : RunInput → ℕ → Event → List Flight
   came given fed Feed = arrivals (slice_get given.inputs fed ∷ [])
-  came given fed (Take id seat) = []
+  came given fed (Take seat id) = []
   came given fed (Back id) = []
   came given fed (Apply id) = []
   came given fed Stop = []
@@ -438,7 +438,7 @@ module _ (nodes : List (Option NodeRecord)) (n : ℕ) where
   event_rises : (given : RunInput) (budget seats : ℕ) (at : RunState) (e : Event) (es : List Event) → AllowedEvent given budget seats at e → is_stop e ≡ false → KeptAt budget at → OnlyPassing at.world.pending
       → Every IsTraffic (inputs_from given at.world.fed (e ∷ es)) → crowded at.world ≤ crowded (after given at e).world
   event_rises given budget seats at Feed es a u K O t = let c = fed_crowd given at.world (slice_get given.inputs at.world.fed) t.0 in omega arith
-  event_rises given budget seats at (Take id seat) es a u K O t = omega arith
+  event_rises given budget seats at (Take seat id) es a u K O t = omega arith
   event_rises given budget seats at (Back id) es a u K O t = omega arith
   event_rises given budget seats at (Apply id) es a u K O t =
       let h = held_item at.world at.taken id K.sound a in
@@ -449,7 +449,7 @@ module _ (nodes : List (Option NodeRecord)) (n : ℕ) where
       → Every IsTraffic (inputs_from given at.world.fed (e ∷ es)) → IsStillGraph nodes at.world.nodes → AllDefined at.world.pending → Every IsDefined (came given at.world.fed e)
       → crowded (after given at e).world ≡ crowded at.world → Balanced at.world (after given at e).world (came given at.world.fed e)
   event_balance given budget seats at Feed es a u K C O t G D d same = fed_balance given at.world (slice_get given.inputs at.world.fed) t.0 G D d
-  event_balance given budget seats at (Take id seat) es a u K C O t G D d same = idle_balance at.world at.world (idles at.world) D
+  event_balance given budget seats at (Take seat id) es a u K C O t G D d same = idle_balance at.world at.world (idles at.world) D
   event_balance given budget seats at (Back id) es a u K C O t G D d same = idle_balance at.world at.world (idles at.world) D
   event_balance given budget seats at (Apply id) es a u K C O t G D d same =
       let h = held_item at.world at.taken id K.sound a in
@@ -471,7 +471,7 @@ module _ (nodes : List (Option NodeRecord)) (n : ℕ) where
   come_on given budget seats at Feed es a =
       let o = slice_get given.inputs at.world.fed in
       arrivals_first o (inputs_from given (at.world.fed + 1) es) ∙ ap (λ (k : ℕ). arrivals (o ∷ []) ++ arrivals (inputs_from given k es)) (sym (fed_one given at.world o a.1))
-  come_on given budget seats at (Take id seat) es a = refl
+  come_on given budget seats at (Take seat id) es a = refl
   come_on given budget seats at (Back id) es a = refl
   come_on given budget seats at (Apply id) es a = ap (λ (k : ℕ). arrivals (inputs_from given k es)) (sym (apply_fed at.world id))
   come_on given budget seats at Stop es a = refl

@@ -281,7 +281,7 @@ module _ (ports : ℕ) where
 
   at_ports_event : (given : RunInput) (at : RunState) (e : Event) → AtPorts ports at.world → AtPorts ports (after given at e).world
   at_ports_event given at Feed A = fed_next given at.world (slice_get given.inputs at.world.fed) (AtPorts ports) A (λ v q. at_ports_quietly q (record { length_is = A.length_is; ethers = A.ethers }))
-  at_ports_event given at (Take id seat) A = A
+  at_ports_event given at (Take seat id) A = A
   at_ports_event given at (Back id) A = A
   at_ports_event given at (Apply id) A = at_ports_found at.world (find (has_id id) at.world.pending) A
   at_ports_event given at Stop A = record { length_is = A.length_is; ethers = A.ethers }

@@ -299,8 +299,8 @@ passing given budget seats at Feed es a u K O t = record {
   passes = passes_fed given at.world (slice_get given.inputs at.world.fed) t.0 O;
   traffic = subst (λ (n : ℕ). Every IsTraffic (inputs_from given n es)) (sym (fed_one given at.world (slice_get given.inputs at.world.fed) a.1)) t.1;
 }
-passing given budget seats at (Take id seat) es a u K O t =
-    record { kept = kept_event given budget seats at (Take id seat) a K; passes = record { graph = graph_rests at.world.nodes; pass = O }; traffic = t }
+passing given budget seats at (Take seat id) es a u K O t =
+    record { kept = kept_event given budget seats at (Take seat id) a K; passes = record { graph = graph_rests at.world.nodes; pass = O }; traffic = t }
 passing given budget seats at (Back id) es a u K O t =
     record { kept = kept_event given budget seats at (Back id) a K; passes = record { graph = graph_rests at.world.nodes; pass = O }; traffic = t }
 passing given budget seats at (Apply id) es a u K O t =

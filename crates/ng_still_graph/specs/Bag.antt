@@ -55,7 +55,7 @@ HasOnlyFrames w = (item : Item) → Has item w.pending → has_frame item ≡ tr
 abbrev pub inputs_from : RunInput → ℕ → List Event → List (Option Input)
 inputs_from given fed [] = []
 inputs_from given fed (Feed ∷ events) = slice_get given.inputs fed ∷ inputs_from given (fed + 1) events
-inputs_from given fed (Take id seat ∷ events) = inputs_from given fed events
+inputs_from given fed (Take seat id ∷ events) = inputs_from given fed events
 inputs_from given fed (Back id ∷ events) = inputs_from given fed events
 inputs_from given fed (Apply id ∷ events) = inputs_from given fed events
 inputs_from given fed (Stop ∷ events) = inputs_from given fed events
@@ -69,7 +69,7 @@ IsTraffic (Some (Late command)) = ⊥
 
 abbrev pub is_stop : Event → Bool
 is_stop Feed = false
-is_stop (Take id seat) = false
+is_stop (Take seat id) = false
 is_stop (Back id) = false
 is_stop (Apply id) = false
 is_stop Stop = true

@@ -40,7 +40,7 @@ record LastTake (s : Setting) (seat : ℕ) (j : List Event) (job : Job) : Type 0
   front : List Event
   more : List Event
   item : Item
-  parts : j ≡ front ++ Take item.id seat ∷ more
+  parts : j ≡ front ++ Take seat item.id ∷ more
   unended : list_any (ends item.id) more ≡ false
   was_pending : Has item (world_after s front).pending
   job_is : job ≡ job_of (world_after s front) item
@@ -63,7 +63,7 @@ last_more s seat j e job L n h = record {
   front = L.front;
   more = L.more ++ e ∷ [];
   item = L.item;
-  parts = ap (λ (l : List Event). l ++ e ∷ []) L.parts ∙ append_assoc L.front (Take L.item.id seat ∷ L.more) (e ∷ []);
+  parts = ap (λ (l : List Event). l ++ e ∷ []) L.parts ∙ append_assoc L.front (Take seat L.item.id ∷ L.more) (e ∷ []);
   unended = any_push (ends L.item.id) L.more e L.unended n;
   was_pending = L.was_pending;
   job_is = L.job_is;
@@ -80,22 +80,22 @@ keeps_taken s seat j e job same spares (inl (is, free)) = inl (is, λ t h. free 
 keeps_taken s seat j e job same spares (inr L) = inr (last_more s seat j e job L (spares L.item.id) (subst (Has (taken_by L.item.id seat)) (sym (taken_push s j e ∙ same)) L.mine))
 
 -- a Take by another seat
-take_other : (s : Setting) (seat : ℕ) (j : List Event) (id : ItemId) (by : ℕ) (job : Job) → by ≢ seat → TakenLast s seat j job → TakenLast s seat (j ++ Take id by ∷ []) job
+take_other : (s : Setting) (seat : ℕ) (j : List Event) (id : ItemId) (by : ℕ) (job : Job) → by ≢ seat → TakenLast s seat j job → TakenLast s seat (j ++ Take by id ∷ []) job
 take_other s seat j id by job d (inl (is, free)) = inl (
   is,
   λ t h e. ⊎_elim
       (λ (k : Has t (run_state_after s j).taken). free t k e)
       (λ (n : t ≡ taken_by id by). d (ap (λ (x : Taken). x.seat) (sym n) ∙ e))
-      (in_pushed t (taken_by id by) (run_state_after s j).taken (subst (Has t) (taken_push s j (Take id by)) h)),
+      (in_pushed t (taken_by id by) (run_state_after s j).taken (subst (Has t) (taken_push s j (Take by id)) h)),
 )
-take_other s seat j id by job d (inr L) = inr (last_more s seat j (Take id by) job L refl
-    (subst (Has (taken_by L.item.id seat)) (sym (taken_push s j (Take id by))) (in_front (taken_by L.item.id seat) (run_state_after s j).taken (taken_by id by ∷ []) L.mine)))
+take_other s seat j id by job d (inr L) = inr (last_more s seat j (Take by id) job L refl
+    (subst (Has (taken_by L.item.id seat)) (sym (taken_push s j (Take by id))) (in_front (taken_by L.item.id seat) (run_state_after s j).taken (taken_by id by ∷ []) L.mine)))
 
 -- a Take by this seat
-take_own : (s : Setting) (seat : ℕ) (j : List Event) (id : ItemId) → IsJournal s (j ++ Take id seat ∷ [])
-    → TakenLast s seat (j ++ Take id seat ∷ []) (job_found (world_after s j) (find (has_id id) (world_after s j).pending))
+take_own : (s : Setting) (seat : ℕ) (j : List Event) (id : ItemId) → IsJournal s (j ++ Take seat id ∷ [])
+    → TakenLast s seat (j ++ Take seat id ∷ []) (job_found (world_after s j) (find (has_id id) (world_after s j).pending))
 take_own s seat j id o =
-    let a = (orderly_back s.given s.budget s.seats (beginning (start s)) j (Take id seat ∷ []) o).0.1 in
+    let a = (orderly_back s.given s.budget s.seats (beginning (start s)) j (Take seat id ∷ []) o).0.1 in
     let f = to_find (has_id id) a.item (world_after s j).pending a.may.pending (eq-eqb _ _ (ap (λ (i : ItemId). i.0) a.item_is)) in
     let g = of_find (has_id id) f.0 (world_after s j).pending f.1 in
     let same : f.0.id ≡ id = item_same f.0.id id (eqb-true _ _ g.1) in
@@ -103,11 +103,11 @@ take_own s seat j id o =
       front = j;
       more = [];
       item = f.0;
-      parts = ap (λ (i : ItemId). j ++ Take i seat ∷ []) (sym same);
+      parts = ap (λ (i : ItemId). j ++ Take seat i ∷ []) (sym same);
       unended = refl;
       was_pending = g.0;
       job_is = ap (job_found (world_after s j)) f.1;
-      mine = subst (Has (taken_by f.0.id seat)) (sym (taken_push s j (Take id seat)))
+      mine = subst (Has (taken_by f.0.id seat)) (sym (taken_push s j (Take seat id)))
           (subst (λ (i : ItemId). Has (taken_by f.0.id seat) ((run_state_after s j).taken ++ taken_by i seat ∷ [])) same (in_back (taken_by f.0.id seat) (run_state_after s j).taken (taken_by f.0.id seat ∷ []) (inl refl)));
     })
 
@@ -131,16 +131,16 @@ gone s seat j e id job o less ended (inr L) false other =
     (subst (Has (taken_by L.item.id seat)) (sym (taken_push s j e ∙ less))
     (to_filter (λ (x : Taken). not (is_of id x)) (taken_by L.item.id seat) (run_state_after s j).taken L.mine (ap not (ne_eqb L.item.id.0 id.0 apart)))))
 
-take_by : (s : Setting) (seat : ℕ) (j : List Event) (id : ItemId) (by : ℕ) (job : Job) → IsJournal s (j ++ Take id by ∷ []) → TakenLast s seat j job
-    → (b : Bool) → (by == seat) ≡ b → TakenLast s seat (j ++ Take id by ∷ []) (cond b (job_found (world_after s j) (find (has_id id) (world_after s j).pending)) job)
+take_by : (s : Setting) (seat : ℕ) (j : List Event) (id : ItemId) (by : ℕ) (job : Job) → IsJournal s (j ++ Take by id ∷ []) → TakenLast s seat j job
+    → (b : Bool) → (by == seat) ≡ b → TakenLast s seat (j ++ Take by id ∷ []) (cond b (job_found (world_after s j) (find (has_id id) (world_after s j).pending)) job)
 take_by s seat j id by job o T true e =
-    subst (λ (n : ℕ). TakenLast s seat (j ++ Take id n ∷ []) (job_found (world_after s j) (find (has_id id) (world_after s j).pending))) (sym (eqb-true by seat e))
-    (take_own s seat j id (subst (λ (n : ℕ). IsJournal s (j ++ Take id n ∷ [])) (eqb-true by seat e) o))
+    subst (λ (n : ℕ). TakenLast s seat (j ++ Take n id ∷ []) (job_found (world_after s j) (find (has_id id) (world_after s j).pending))) (sym (eqb-true by seat e))
+    (take_own s seat j id (subst (λ (n : ℕ). IsJournal s (j ++ Take n id ∷ [])) (eqb-true by seat e) o))
 take_by s seat j id by job o T false e = take_other s seat j id by job (eqb-false by seat e) T
 
 step_last : (s : Setting) (seat : ℕ) (j : List Event) (e : Event) (job : Job) → IsJournal s (j ++ e ∷ []) → TakenLast s seat j job → TakenLast s seat (j ++ e ∷ []) (job_after (run_state_after s j) seat job e)
 step_last s seat j Feed job o T = keeps_taken s seat j Feed job refl (λ id. refl) T
-step_last s seat j (Take id by) job o T = take_by s seat j id by job o T (by == seat) refl
+step_last s seat j (Take by id) job o T = take_by s seat j id by job o T (by == seat) refl
 step_last s seat j (Back id) job o T =
     gone s seat j (Back id) id job (orderly_front s.given s.budget s.seats (beginning (start s)) j (Back id ∷ []) o) refl (λ other. refl) T (has_taken (run_state_after s j).taken id seat) refl
 step_last s seat j (Apply id) job o T =
@@ -244,21 +244,21 @@ kept_job p v w old new K before now mode false reads = reader_job p v w old new 
 since : (s : Setting) (seat : ℕ) (j : List Event) (job : Job) → IsJournal s j → (L : LastTake s seat j job) → IsAtWork (run_state_after s j) seat L.item job
 since s seat j job o L =
     let p = L.item in
-    let o2 : IsJournal s (L.front ++ Take L.item.id seat ∷ L.more) = subst (IsJournal s) L.parts o in
-    let K = kept_before s L.front (Take L.item.id seat ∷ L.more) o2 in
-    let back = orderly_back s.given s.budget s.seats (beginning (start s)) L.front (Take L.item.id seat ∷ L.more) o2 in
-    let LL = kept_event s.given s.budget s.seats (run_state_after s L.front) (Take L.item.id seat) back.0.1 K in
-    let m = remains_run s.given s.budget s.seats (after s.given (run_state_after s L.front) (Take L.item.id seat)) L.more L.item (taken_by L.item.id seat) back.1 LL L.unended L.was_pending
+    let o2 : IsJournal s (L.front ++ Take seat L.item.id ∷ L.more) = subst (IsJournal s) L.parts o in
+    let K = kept_before s L.front (Take seat L.item.id ∷ L.more) o2 in
+    let back = orderly_back s.given s.budget s.seats (beginning (start s)) L.front (Take seat L.item.id ∷ L.more) o2 in
+    let LL = kept_event s.given s.budget s.seats (run_state_after s L.front) (Take seat L.item.id) back.0.1 K in
+    let m = remains_run s.given s.budget s.seats (after s.given (run_state_after s L.front) (Take seat L.item.id)) L.more L.item (taken_by L.item.id seat) back.1 LL L.unended L.was_pending
     (in_back (taken_by L.item.id seat) (run_state_after s L.front).taken (taken_by L.item.id seat ∷ []) (inl refl)) refl in
-    let M = kept_run s.given s.budget s.seats (after s.given (run_state_after s L.front) (Take L.item.id seat)) L.more back.1 LL in
+    let M = kept_run s.given s.budget s.seats (after s.given (run_state_after s L.front) (Take seat L.item.id)) L.more back.1 LL in
     let old = K.sound.there L.item L.was_pending in
     let new = M.sound.there L.item m.is_pending in
-    let same : run_state_after s j ≡ after_all s.given (after s.given (run_state_after s L.front) (Take L.item.id seat)) L.more = ap (run_state_after s) L.parts ∙ after-append s.given (beginning (start s)) L.front (Take L.item.id seat ∷ L.more) in
+    let same : run_state_after s j ≡ after_all s.given (after s.given (run_state_after s L.front) (Take seat L.item.id)) L.more = ap (run_state_after s) L.parts ∙ after-append s.given (beginning (start s)) L.front (Take seat L.item.id ∷ L.more) in
     subst (λ (z : RunState). IsAtWork z seat L.item job) (sym same)
     (record {
       pending = m.is_pending;
       taken = m.is_out;
-      job_is = kept_job L.item (world_after s L.front) (after_all s.given (after s.given (run_state_after s L.front) (Take L.item.id seat)) L.more).world old.0 new.0 m.node_kept old.1 new.1 old.2 L.item.writer refl ∙ sym L.job_is;
+      job_is = kept_job L.item (world_after s L.front) (after_all s.given (after s.given (run_state_after s L.front) (Take seat L.item.id)) L.more).world old.0 new.0 m.node_kept old.1 new.1 old.2 L.item.writer refl ∙ sym L.job_is;
     })
 
 -- A job has its item

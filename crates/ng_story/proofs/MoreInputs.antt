@@ -31,7 +31,7 @@ same_after : (s : Setting) (more : List Input) (at : RunState) (e : Event) → A
 same_after s more at Feed a =
     let next = get_front s.given.inputs more at.world.fed (feed_some at.world (slice_get s.given.inputs at.world.fed) a.1) in
     ap (λ (o : Option Input). record at { world = feed_next s.given at.world o }) next
-same_after s more at (Take id seat) a = refl
+same_after s more at (Take seat id) a = refl
 same_after s more at (Back id) a = refl
 same_after s more at (Apply id) a = refl
 same_after s more at Stop a = refl

@@ -83,9 +83,9 @@ found_is s j item o h =
 pub take_tells : TakeTells
 take_tells s item seat o h = (
   λ other d. let n : (seat == other) ≡ false = ne_eqb seat other (λ e. d (sym e)) in
-      desk_other s (Take item.id seat) other n (ap (λ (b : Bool). cond b (job_found (world_of s) (find (has_id item.id) (world_of s).pending)) (story_job s other)) n),
+      desk_other s (Take seat item.id) other n (ap (λ (b : Bool). cond b (job_found (world_of s) (find (has_id item.id) (world_of s).pending)) (story_job s other)) n),
   (let same : (seat == seat) ≡ true = eq-eqb seat seat refl in
-      desk_mine s (Take item.id seat) seat (job_of (world_of s) item) same
+      desk_mine s (Take seat item.id) seat (job_of (world_of s) item) same
       (ap (λ (b : Bool). cond b (job_found (world_of s) (find (has_id item.id) (world_of s).pending)) (story_job s seat)) same ∙ ap (job_found (world_of s)) (found_is s.setting s.journal item o h))),
 )
 

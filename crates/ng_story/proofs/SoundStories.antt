@@ -77,7 +77,7 @@ event_sound s e S unended allowed fed stopped = record {
 pub take_keeps_sound : TakeKeepsSound
 take_keeps_sound s item seat S unended below idle within next =
     let free = subst (IsJobNow (run_state_of s) seat) idle (jobs_stand s seat (so_far s S unended)) in
-    event_sound s (Take item.id seat) S unended
+    event_sound s (Take seat item.id) S unended
     (λ more. record { seat_is = below; seat_free = free; within = within; item = item; item_is = refl; may = next.may; least = next.least })
     refl refl
 

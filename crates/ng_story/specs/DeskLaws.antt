@@ -21,7 +21,7 @@ IsOrderlySoFar s = IsJournal s.setting s.journal
 abbrev pub TakeTells : Type 0
 TakeTells =
     (s : Story) (item : Item) (seat : ℕ) → IsOrderlySoFar s → Has item (world_of s).pending
-    → Others seat s (with_event s (Take item.id seat)) × Gained seat (Take item.id seat) (job_of (world_of s) item) s (with_event s (Take item.id seat))
+    → Others seat s (with_event s (Take seat item.id)) × Gained seat (Take seat item.id) (job_of (world_of s) item) s (with_event s (Take seat item.id))
 
 abbrev pub BackTells : Type 0
 BackTells =

@@ -25,7 +25,7 @@ abbrev pub TakeKeepsSound : Type 0
 TakeKeepsSound =
     (s : Story) (item : Item) (seat : ℕ) → IsSoundStory s → s.closed ≡ None → seat < s.setting.seats → story_job s seat ≡ Idle
     → (world_of s).applies + length (run_state_of s).taken < s.setting.budget → IsNext (run_state_of s) item
-    → IsSoundStory (with_event s (Take item.id seat))
+    → IsSoundStory (with_event s (Take seat item.id))
 
 abbrev pub BackKeepsSound : Type 0
 BackKeepsSound =

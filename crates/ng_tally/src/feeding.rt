@@ -27,7 +27,7 @@ fn wants_window(input: &Input) -> bool
     ensures { result ≡ wants_window input.now }
 {
     match input {
-        Input::Command(command) | Input::Late(command) => is_write(&command.what),
+        Input::Command(command) | Input::Late(command) => is_write(&command.get().what),
         Input::Packet { .. } | Input::Tick(_) => true,
     }
 }

@@ -31,18 +31,18 @@ returns-in_default-clause-refuses g c = λ _.
 
 pub returns-then-ne-clause-refuses : goal.returns-then-ne-clause-refuses
 returns-then-ne-clause-refuses g c = λ _.
-    let took = subst (λ (o : Option (Work g.row.B.Denot)). IfSome o (λ w. story c.take.new.self ≡ with_event (story c.args.core.now) (by.Take (item_of w).id c.args.seat))) c.in-Some.is c.in_ok-taken.ensures.taken in
+    let took = subst (λ (o : Option (Work g.row.B.Denot)). IfSome o (λ w. story c.take.new.self ≡ with_event (story c.args.core.now) (by.Take c.args.seat (item_of w).id))) c.in-Some.is c.in_ok-taken.ensures.taken in
     refuses_other (story c.args.core.now) c.args.unfed.now c.args.id c.args.seat c.requires.goes (item_of c.in-Some.taken).id (subst IsSoundStory took c.know_story-2.ensures.sound) c.requires.running
     (other_item c.id.result (item_of c.in-Some.taken).id c.args.id c.ne.result c.ne.ensures c.if-ne.true c.id.ensures)
 
 pub returns-clause-follows : goal.returns-clause-follows
 returns-clause-follows g c = λ _.
-    let took = subst (λ (o : Option (Work g.row.B.Denot)). IfSome o (λ w. story c.take.new.self ≡ with_event (story c.args.core.now) (by.Take (item_of w).id c.args.seat))) c.in-Some.is c.in_ok-taken.ensures.taken in
-    follows_named (λ i. by.Take i c.args.seat) (story c.args.core.now) (story c.take.new.self) c.args.unfed.now (item_of c.in-Some.taken).id c.args.id (same_item c.id.result (item_of c.in-Some.taken).id c.args.id c.ne.result c.ne.ensures c.if-ne.false c.id.ensures) took c.know_story-2.ensures.sound c.requires.running
+    let took = subst (λ (o : Option (Work g.row.B.Denot)). IfSome o (λ w. story c.take.new.self ≡ with_event (story c.args.core.now) (by.Take c.args.seat (item_of w).id))) c.in-Some.is c.in_ok-taken.ensures.taken in
+    follows_named (λ i. by.Take c.args.seat i) (story c.args.core.now) (story c.take.new.self) c.args.unfed.now (item_of c.in-Some.taken).id c.args.id (same_item c.id.result (item_of c.in-Some.taken).id c.args.id c.ne.result c.ne.ensures c.if-ne.false c.id.ensures) took c.know_story-2.ensures.sound c.requires.running
 
 pub returns-clause-holds : goal.returns-clause-holds
 returns-clause-holds g c = λ _.
-    let took = subst (λ (o : Option (Work g.row.B.Denot)). IfSome o (λ w. story c.take.new.self ≡ with_event (story c.args.core.now) (by.Take (item_of w).id c.args.seat))) c.in-Some.is c.in_ok-taken.ensures.taken in
+    let took = subst (λ (o : Option (Work g.row.B.Denot)). IfSome o (λ w. story c.take.new.self ≡ with_event (story c.args.core.now) (by.Take c.args.seat (item_of w).id))) c.in-Some.is c.in_ok-taken.ensures.taken in
     let job = subst (λ (o : Option (Work g.row.B.Denot)). IfSome o (λ w. job_with g.B.Node.state w ≡ story_job (story c.take.new.self) c.args.seat)) c.in-Some.is c.in_ok-taken.ensures.work in
     let ends = ap has_ended took in
     holds_set g.B.Node.state c.args.held.now (story c.args.core.now) (story c.take.new.self) c.args.seat (Some c.in-Some.taken) c.requires.holds c.take.ensures.others (sym job) (λ _. ends ∙ c.requires.running) ends

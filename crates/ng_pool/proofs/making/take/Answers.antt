@@ -16,8 +16,8 @@ use Rattle.ng_pool.proofs.Holding.{free_at, holds_set, not_skipped}
 use Rattle.ng_pool.proofs.making.take.Goals as goal
 use Rattle.ng_pool.proofs.making.take.Goals.{After-know_story}
 
-took : (g : _) (c : After-know_story g) → story c.take.new.self ≡ with_event (story c.args.core.now) (Take (item_of c.in-Some.taken).id c.args.seat)
-took g c = subst (λ (o : Option (Work g.row.B.Denot)). IfSome o (λ w. story c.take.new.self ≡ with_event (story c.args.core.now) (Take (item_of w).id c.args.seat))) c.in-Some.is c.in_ok-taken.ensures.taken
+took : (g : _) (c : After-know_story g) → story c.take.new.self ≡ with_event (story c.args.core.now) (Take c.args.seat (item_of c.in-Some.taken).id)
+took g c = subst (λ (o : Option (Work g.row.B.Denot)). IfSome o (λ w. story c.take.new.self ≡ with_event (story c.args.core.now) (Take c.args.seat (item_of w).id))) c.in-Some.is c.in_ok-taken.ensures.taken
 
 running : (g : _) (c : After-know_story g) → has_ended (story c.args.core.now) ≡ false
 running g c = subst (λ (o : Option (Work g.row.B.Denot)). IfSome o (λ w. has_ended (story c.args.core.now) ≡ false)) c.in-Some.is c.in_ok-taken.ensures.running

@@ -42,10 +42,10 @@ stands : (g : _) (c : After-push_reserved g) → Stands c.take.new.self (with_ta
 stands g c = subst (λ (o : Option (Work g.row.B.Denot)). IfSome o (λ w. (a : RunState) → Stands c.self.inside.state a → Stands c.take.new.self (with_taken a (item_of w).id.0 c.args.seat))) c.in-Some.is c.in_ok-work.ensures.after (run_state_of (before g c)) c.self.invariant.stands
 
 -- the story then
-grown : (g : _) (c : After-push_reserved g) → record (before g c) { journal = c.push_reserved.new.self.items } ≡ with_event (before g c) (Take (item_of c.in-Some.work).id c.args.seat)
+grown : (g : _) (c : After-push_reserved g) → record (before g c) { journal = c.push_reserved.new.self.items } ≡ with_event (before g c) (Take c.args.seat (item_of c.in-Some.work).id)
 grown g c =
-    let items : c.push_reserved.new.self.items ≡ c.self.inside.journal.items ++ Take (item_of c.in-Some.work).id c.args.seat ∷ [] =
-    c.push_reserved.ensures.items ∙ ap (λ (l : List Event). l ++ Take c.id.result c.args.seat ∷ []) c.reserve.ensures.items ∙ ap (λ (i : ItemId). c.self.inside.journal.items ++ Take i c.args.seat ∷ []) c.id.ensures in
+    let items : c.push_reserved.new.self.items ≡ c.self.inside.journal.items ++ Take c.args.seat (item_of c.in-Some.work).id ∷ [] =
+    c.push_reserved.ensures.items ∙ ap (λ (l : List Event). l ++ Take c.args.seat c.id.result ∷ []) c.reserve.ensures.items ∙ ap (λ (i : ItemId). c.self.inside.journal.items ++ Take c.args.seat i ∷ []) c.id.ensures in
     ap (λ (j : List Event). let s : Story = record (before g c) { journal = j } in s) items
 
 open_ : (g : _) (c : After-push_reserved g) → (before g c).closed ≡ None
@@ -70,28 +70,28 @@ invariant_of-self-2 g c =
     record {
       sound = subst IsSoundStory (sym same) (take_keeps_sound s item c.args.seat c.self.invariant.sound (open_ g at) lt idle within (next g at));
       modest = c.self.invariant.modest;
-      low = subst (λ (x : Story). IsLow (world_of x)) (sym same) (low_sound (with_event s (Take item.id c.args.seat)) (take_keeps_sound s item c.args.seat c.self.invariant.sound (open_ g at) lt idle within (next g at)) c.self.invariant.modest (open_ g at));
+      low = subst (λ (x : Story). IsLow (world_of x)) (sym same) (low_sound (with_event s (Take c.args.seat item.id)) (take_keeps_sound s item c.args.seat c.self.invariant.sound (open_ g at) lt idle within (next g at)) c.self.invariant.modest (open_ g at));
       some = c.self.invariant.some;
-      stands = subst (λ (x : Story). Stands c.take.new.self (run_state_of x)) (sym same) (stands_pushed c.take.new.self s (Take item.id c.args.seat) N);
+      stands = subst (λ (x : Story). Stands c.take.new.self (run_state_of x)) (sym same) (stands_pushed c.take.new.self s (Take c.args.seat item.id) N);
       room = λ z. let room = c.self.invariant.room z in grind (arith, common_steps);
     }
 
-tells : (g : _) (c : After-push_reserved g) → Others c.args.seat (before g c) (with_event (before g c) (Take (item_of c.in-Some.work).id c.args.seat))
-    × Gained c.args.seat (Take (item_of c.in-Some.work).id c.args.seat) (job_of (world_of (before g c)) (item_of c.in-Some.work)) (before g c) (with_event (before g c) (Take (item_of c.in-Some.work).id c.args.seat))
+tells : (g : _) (c : After-push_reserved g) → Others c.args.seat (before g c) (with_event (before g c) (Take c.args.seat (item_of c.in-Some.work).id))
+    × Gained c.args.seat (Take c.args.seat (item_of c.in-Some.work).id) (job_of (world_of (before g c)) (item_of c.in-Some.work)) (before g c) (with_event (before g c) (Take c.args.seat (item_of c.in-Some.work).id))
 tells g c = take_tells (before g c) (item_of c.in-Some.work) c.args.seat (so_far (before g c) c.self.invariant.sound (open_ g c)) (next g c).may.pending
 
 pub returns-clause-work : goal.returns-clause-work
 returns-clause-work g c =
     let at = (goal.at.returns-clause-work g c).After-push_reserved in
-    let own = subst (Gained c.args.seat (Take (item_of c.in-Some.work).id c.args.seat) (job_of (world_of (before g at)) (item_of c.in-Some.work)) (before g at)) (sym (grown g at)) (tells g at).1 in
+    let own = subst (Gained c.args.seat (Take c.args.seat (item_of c.in-Some.work).id) (job_of (world_of (before g at)) (item_of c.in-Some.work)) (before g at)) (sym (grown g at)) (tells g at).1 in
     work g at ∙ sym (ap (λ (d : SeatDesk). d.job) own)
 
 pub returns-clause-own : goal.returns-clause-own
 returns-clause-own g c =
     let at = (goal.at.returns-clause-own g c).After-push_reserved in
-    subst (λ (x : CoreStory). Gained c.args.seat (Take (item_of c.in-Some.work).id c.args.seat) (job_with g.B.Node.state c.in-Some.work) (story x) (record (before g at) { journal = c.push_reserved.new.self.items })) c.self.view_is
-    (subst (Gained c.args.seat (Take (item_of c.in-Some.work).id c.args.seat) (job_with g.B.Node.state c.in-Some.work) (before g at)) (sym (grown g at))
-    (subst (λ (j : Job). Gained c.args.seat (Take (item_of c.in-Some.work).id c.args.seat) j (before g at) (with_event (before g at) (Take (item_of c.in-Some.work).id c.args.seat))) (sym (work g at)) (tells g at).1))
+    subst (λ (x : CoreStory). Gained c.args.seat (Take c.args.seat (item_of c.in-Some.work).id) (job_with g.B.Node.state c.in-Some.work) (story x) (record (before g at) { journal = c.push_reserved.new.self.items })) c.self.view_is
+    (subst (Gained c.args.seat (Take c.args.seat (item_of c.in-Some.work).id) (job_with g.B.Node.state c.in-Some.work) (before g at)) (sym (grown g at))
+    (subst (λ (j : Job). Gained c.args.seat (Take c.args.seat (item_of c.in-Some.work).id) j (before g at) (with_event (before g at) (Take c.args.seat (item_of c.in-Some.work).id))) (sym (work g at)) (tells g at).1))
 
 pub returns-clause-others : goal.returns-clause-others
 returns-clause-others g c =
