@@ -16,9 +16,9 @@ counts_more false e own all is same =
 feeds_from : (taken : List Taken) (j : List Event) → times is_feed (own_events_from taken 0 j) ≡ times is_feed j
 feeds_from taken [] = refl
 feeds_from taken (Feed ∷ es) = ap (λ (n : ℕ). 1 + n) (feeds_from taken es)
-feeds_from taken (Take id seat ∷ es) =
-    let after = taken_after taken (Take id seat) in
-    counts_more (is_own taken 0 (Take id seat)) (Take id seat) (own_events_from after 0 es) es refl (feeds_from after es)
+feeds_from taken (Take seat id ∷ es) =
+    let after = taken_after taken (Take seat id) in
+    counts_more (is_own taken 0 (Take seat id)) (Take seat id) (own_events_from after 0 es) es refl (feeds_from after es)
 feeds_from taken (Back id ∷ es) =
     let after = taken_after taken (Back id) in
     counts_more (has_taken taken id 0) (Back id) (own_events_from after 0 es) es refl (feeds_from after es)

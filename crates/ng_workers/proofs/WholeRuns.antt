@@ -40,7 +40,7 @@ same_from s more at (Feed ∷ es) o few =
     let same : after (with_more s more).given at Feed ≡ after s.given at Feed = ap (λ (o : Option Input). let r : RunState = record at { world = feed_next s.given at.world o } in r) next in
     let one = counts (with_more s more).given at.world (slice_get (s.given.inputs ++ more) at.world.fed) o.0.1.1 in
     same_from s more (after (with_more s more).given at Feed) es o.1 (omega arith) ∙ ap (λ (x : RunState). after_all s.given x es) same
-same_from s more at (Take id seat ∷ es) o few = same_from s more (after s.given at (Take id seat)) es o.1 (let f : at.world.fed + (0 + times is_feed es) ≤ length s.given.inputs = few in omega arith)
+same_from s more at (Take seat id ∷ es) o few = same_from s more (after s.given at (Take seat id)) es o.1 (let f : at.world.fed + (0 + times is_feed es) ≤ length s.given.inputs = few in omega arith)
 same_from s more at (Back id ∷ es) o few = same_from s more (after s.given at (Back id)) es o.1 (let f : at.world.fed + (0 + times is_feed es) ≤ length s.given.inputs = few in omega arith)
 same_from s more at (Apply id ∷ es) o few =
     let fed = apply_fed at.world id in let f : at.world.fed + (0 + times is_feed es) ≤ length s.given.inputs = few in same_from s more (after s.given at (Apply id)) es o.1 (omega arith)

@@ -13,14 +13,14 @@ core_desk core seat = story_desk (story core) seat
 
 abbrev pub is_back : Event → Bool
 is_back Feed = false
-is_back (Take id seat) = false
+is_back (Take seat id) = false
 is_back (Back id) = true
 is_back (Apply id) = false
 is_back Stop = false
 
 abbrev pub is_feed : Event → Bool
 is_feed Feed = true
-is_feed (Take id seat) = false
+is_feed (Take seat id) = false
 is_feed (Back id) = false
 is_feed (Apply id) = false
 is_feed Stop = false

@@ -12,9 +12,9 @@ ghost use Rattle.ng_workers.specs.Hands.{Brings, Drove, Takes};
 
 use crate::holding::{Leftover, hand_in, quit, take_next};
 use crate::next::Next;
-use crate::unfed::Unfed;
 use ng_base::NoMemory;
 use ng_node::Node;
+use ng_pool::Unfed;
 use ng_seats::Core;
 use ng_world::{Done, Work};
 use std::alloc::Global;

@@ -10,7 +10,6 @@ mod laws;
 mod next;
 mod running;
 mod step;
-mod unfed;
 mod working;
 
 pub use driving::drive;
