@@ -1,12 +1,12 @@
 // The line of a fault, on standard error.
-ghost use Rattle.std.specs.Prelude.{◌≡◌, ℕ, List, map, string_bytes, IfOk};
+ghost use Rattle.std.specs.Prelude.{◌≡◌, ℕ, List, map, string_bytes, IfOk, OnErr};
 ghost use Rattle.ng_forecast.specs.Line as forecast;
 ghost use Rattle.ng_replay.specs.Line.{replay_line};
 ghost use Rattle.ng_run.specs.Line.{fault_line};
 ghost use Rattle.ng_words.specs.Forecast.{forecast_words_of};
 ghost use Rattle.ng_words.specs.Replay.{replay_words_of};
 ghost use Rattle.ng_words.specs.Run.{words_of};
-ghost use Rattle.ngrun.specs.Program.{Puts, Tells, TellsIf};
+ghost use Rattle.ngrun.specs.Program.{Puts, Tells, TellsIf, memory_line};
 ghost use Rattle.ngrun.specs.Top.{line_of};
 
 use crate::top::{Ran, behind_first};
@@ -64,7 +64,9 @@ pub fn put<E: Sink>(line: &[u8], errors: &mut E)
 
 /// Puts a line that was made, or that of a want of memory where it could not be made.
 pub fn tell<E: Sink>(made: Result<Vec<u8>, NoMemory>, errors: &mut E)
-    ensures { (line : List ℕ) → IfOk made (λ bytes. bytes.items ≡ line) → Tells line (record { old = E.contents errors.old; now = E.contents errors.new; before = E.faults errors.old; after = E.faults errors.new }) }
+    ensures made { IfOk made (λ bytes. Puts bytes.items (record { old = E.contents errors.old; now = E.contents errors.new; before = E.faults errors.old; after = E.faults errors.new })) }
+    ensures short { OnErr made (Puts memory_line (record { old = E.contents errors.old; now = E.contents errors.new; before = E.faults errors.old; after = E.faults errors.new })) }
+    ensures told { (line : List ℕ) → IfOk made (λ bytes. bytes.items ≡ line) → Tells line (record { old = E.contents errors.old; now = E.contents errors.new; before = E.faults errors.old; after = E.faults errors.new }) }
 {
     match made {
         Ok(line) => put(&line, errors),
