@@ -1,6 +1,7 @@
 -- Entries stay in order of their numbers where one is pushed, goes out, comes back or is removed.
-use Rattle.std.proofs.Common.{◌≡◌, ◌⊎◌, inl, inr, ⊎_elim, ℕ, ◌+◌, ◌<◌, ◌≤◌, zero, suc, Bool, true, false, cond, List, [], ◌∷◌, ◌++◌, map, length, drop, set, slice_get, refl, sym, ap, ◌∙◌, subst, arith}
+use Rattle.std.proofs.Common.{◌≡◌, ℕ, ◌+◌, ◌<◌, ◌≤◌, zero, suc, Bool, true, false, cond, List, [], ◌∷◌, ◌++◌, map, length, drop, set, slice_get, refl, sym, ap, ◌∙◌, subst, arith}
 use Rattle.std.specs.Prelude.{◌==◌, filter, remove, Option, Some, None}
+use Rattle.std.proofs.lemmas.Option.{slice_get_within}
 use Rattle.ng_base.specs.declared.ids.ItemId.{ItemId}
 use Rattle.ng_machine.specs.declared.item.Item.{Item}
 use Rattle.ng_queue.specs.declared.entry.Mark.{Mark}
@@ -50,18 +51,16 @@ waits_set r s at es f w le lt = subst AllWait (sym (drop_set es at s f lt)) (wai
 
 -- THE HEAD GOES OUT
 
-head_got : (p : Item) (h : Option Item) (o : Option Entry) → h ≡ Some p → WaitsAs h o → o ≡ Some (Waiting p) ⊎ (o ≡ None)
-head_got p h None is n = inr refl
-head_got p h (Some (Waiting q)) is n = let z : Some q ≡ Some p = sym n ∙ is in let y : q ≡ p = cc in inl (ap (λ (x : Item). Some (Waiting x)) y)
+head_got : (p : Item) (h : Option Item) (o : Option Entry) → h ≡ Some p → WaitsAs h o → o ≡ Some (Waiting p)
+head_got p h None is n = let z : None ≡ Some p = sym n ∙ is in absurd (cc)
+head_got p h (Some (Waiting q)) is n = let z : Some q ≡ Some p = sym n ∙ is in let y : q ≡ p = cc in ap (λ (x : Item). Some (Waiting x)) y
 head_got p h (Some (Out m)) is n = absurd n
 
-get_there : (es : List Entry) (k : ℕ) → k < length es → slice_get es k ≡ None → ⊥
-get_there [] k lt e = omega arith
-get_there (x ∷ es) zero lt e = absurd (cc)
-get_there (x ∷ es) (suc k) lt e = get_there es k (omega arith) e
+head_get : (es : List Entry) (k : ℕ) (p : Item) → IsHeadAt es k → head es ≡ Some p → slice_get es k ≡ Some (Waiting p)
+head_get es k p h is = head_got p (head es) (slice_get es k) is h
 
-head_get : (es : List Entry) (k : ℕ) (p : Item) → IsHeadAt es k → head es ≡ Some p → k < length es → slice_get es k ≡ Some (Waiting p)
-head_get es k p h is lt = ⊎_elim (λ (e : slice_get es k ≡ Some (Waiting p)). e) (λ (e : slice_get es k ≡ None). absurd (get_there es k lt e)) (head_got p (head es) (slice_get es k) is h)
+pub head_within : (es : List Entry) (k : ℕ) (p : Item) → IsHeadAt es k → head es ≡ Some p → k < length es
+head_within es k p h is = slice_get_within es k (Waiting p) (head_get es k p h is)
 
 -- those above keep their entries
 take_out_above : (low : ℕ) (id : ItemId) (es : List Entry) → Ascends low es → id.0 < low → map (take_out id) es ≡ es
@@ -91,11 +90,11 @@ take_out_get low (Waiting q ∷ es) (suc k) p a is =
     ap (λ (b : Bool). cond b (Out (mark_of q)) (Waiting q) ∷ map (take_out p.id) es) other ∙ ap (λ (xs : List Entry). Waiting q ∷ xs) (take_out_get (q.id.0 + 1) es k p a.1 is)
 take_out_get low (Out m ∷ es) (suc k) p a is = ap (λ (xs : List Entry). Out m ∷ xs) (take_out_get (m.id.0 + 1) es k p a.1 is)
 
-pub take_out_head : (low : ℕ) (es : List Entry) (k : ℕ) (p : Item) → Ascends low es → IsHeadAt es k → head es ≡ Some p → k < length es → set es k (Out (mark_of p)) ≡ map (take_out p.id) es
-take_out_head low es k p a h is lt = sym (take_out_get low es k p a (head_get es k p h is lt))
+pub take_out_head : (low : ℕ) (es : List Entry) (k : ℕ) (p : Item) → Ascends low es → IsHeadAt es k → head es ≡ Some p → set es k (Out (mark_of p)) ≡ map (take_out p.id) es
+take_out_head low es k p a h is = sym (take_out_get low es k p a (head_get es k p h is))
 
-pub ascends_take_out : (low : ℕ) (es : List Entry) (k : ℕ) (p : Item) → Ascends low es → IsHeadAt es k → head es ≡ Some p → k < length es → Ascends low (set es k (Out (mark_of p)))
-ascends_take_out low es k p a h is lt = ascends_set low es k (Waiting p) (Out (mark_of p)) a (head_get es k p h is lt) refl
+pub ascends_take_out : (low : ℕ) (es : List Entry) (k : ℕ) (p : Item) → Ascends low es → IsHeadAt es k → head es ≡ Some p → Ascends low (set es k (Out (mark_of p)))
+ascends_take_out low es k p a h is = ascends_set low es k (Waiting p) (Out (mark_of p)) a (head_get es k p h is) refl
 
 -- AN ITEM COMES BACK
 

@@ -3,6 +3,7 @@ ghost use Rattle.std.specs.Prelude.{◌≡◌, ◌+◌, ◌<◌, ◌≤◌, ◌+
 ghost use Rattle.std.specs.VecDeque.{deque_len, deque_capacity};
 ghost use Rattle.ng_queue.specs.Places.{IsHeadAt};
 ghost use Rattle.ng_queue.specs.Queue.{empty_queue, head, hold_of, take_out, put_back, is_other, mark_of, waiting_items, AllWait, IsBelow, IsOutAs, IsOut};
+ghost use Rattle.ng_queue.specs.Queues.{ready_of};
 ghost use Rattle.ng_queue.specs.Takeable.{IsTakeable};
 ghost use Rattle.ng_queue.specs.declared.entry.Entry.TheVariants.{Waiting, Out};
 
@@ -174,7 +175,6 @@ impl NodeQueue {
     /// The first of these that holds, and the queue is then as before: `Empty` where no item waits; `WriterIn` where
     /// a writer is out; `ReadersIn` where the head is a writer and other items are out; `SameHook` where the head is
     /// a reader and an item of its lane is out.
-    #[tactic(auto, using(crate::proofs::OrderLemmas::take_out_head, crate::proofs::OrderLemmas::ascends_take_out, crate::proofs::OrderLemmas::waits_set,))]
     pub fn take(&mut self) -> Result<Item, Hold>
         ensures refused { IfErr result (λ why. hold_of self.old.entries ≡ Some why) }
         ensures same { OnErr result (self.new ≡ self.old) }
@@ -187,13 +187,41 @@ impl NodeQueue {
         ensures backs { IfOk result (λ item. IsOutAs (mark_of item) self.new.entries) }
         ensures out { IfOk result (λ item. IsOut item.id self.new.entries) }
     {
-        let at = first_waiting(&self.entries, self.reach);
-        if let Some(why) = hold(&self.entries, self.reach, at) {
+        if let Some(why) = self.hold() {
             return Err(why);
         }
+        Ok(self.take_head())
+    }
+
+    /// Takes the first item that waits, which nothing holds back. It takes no memory.
+    #[tactic(auto, using(crate::proofs::OrderLemmas::take_out_head, crate::proofs::OrderLemmas::ascends_take_out, crate::proofs::OrderLemmas::waits_set,))]
+    pub(crate) fn take_head(&mut self) -> Item
+        requires { hold_of self.old.entries ≡ None }
+        ensures takeable { IsTakeable self.old.entries result }
+        ensures entries { self.new.entries ≡ map (take_out result.id) self.old.entries }
+        ensures spare { self.new.spare ≡ self.old.spare }
+        ensures head { head self.old.entries ≡ Some result }
+        ensures backs { IsOutAs (mark_of result) self.new.entries }
+        ensures out { IsOut result.id self.new.entries }
+    {
+        let at = first_waiting(&self.entries, self.reach);
         let item = take_at(&mut self.entries, at);
         self.reach = self.reach.max(at + 1);
-        Ok(item)
+        item
+    }
+
+    /// The number of the head, where it can be taken. It takes no memory.
+    pub(crate) fn ready(&self) -> Option<u64>
+        ensures { result ≡ ready_of self.now.entries }
+    {
+        let at = first_waiting(&self.entries, self.reach);
+        if hold(&self.entries, self.reach, at).is_some() {
+            return None;
+        }
+        match &self.entries[at] {
+            Entry::Waiting(item) => Some(item.id.0),
+            Entry::Out(_) => unreachable!(),
+        }
     }
 
     /// Puts an item back at its place, where an item of its number, mode and lane is out. It takes no memory.

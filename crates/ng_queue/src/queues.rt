@@ -34,19 +34,6 @@ impl Model for Queues {
     ghost invariant = { IsConsistent };
 }
 
-/// The number of the head, where it can be taken.
-fn ready_id(queue: &NodeQueue) -> Option<u64>
-    ensures { result ≡ ready_of queue.now.entries }
-{
-    if queue.hold().is_some() {
-        return None;
-    }
-    match queue.head() {
-        None => None,
-        Some(item) => Some(item.id.0),
-    }
-}
-
 impl Queues {
     /// `n` queues with nothing in them and no room, for the numbers 0 to `n` - 1.
     ///
@@ -126,7 +113,7 @@ impl Queues {
         ensures spares { self.new.spares ≡ set self.old.spares at (spare_at self.old.spares at - 1) }
     {
         self.queues[at].push(item);
-        self.ready.put(at, ready_id(&self.queues[at]));
+        self.ready.put(at, self.queues[at].ready());
     }
 
     /// Takes the head of the queue that `least` answers. It takes no memory.
@@ -136,13 +123,9 @@ impl Queues {
         ensures lists { self.new.lists ≡ set self.old.lists at (map (take_out result.id) (list_at self.old.lists at)) }
         ensures spares { self.new.spares ≡ self.old.spares }
     {
-        match self.queues[at].take() {
-            Ok(item) => {
-                self.ready.put(at, ready_id(&self.queues[at]));
-                item
-            }
-            Err(_) => unreachable!(),
-        }
+        let item = self.queues[at].take_head();
+        self.ready.put(at, self.queues[at].ready());
+        item
     }
 
     /// Puts an item back at its place, where an item of its number, mode and lane is out. It takes no memory.
@@ -153,7 +136,7 @@ impl Queues {
         ensures spares { self.new.spares ≡ self.old.spares }
     {
         self.queues[at].back(item);
-        self.ready.put(at, ready_id(&self.queues[at]));
+        self.ready.put(at, self.queues[at].ready());
     }
 
     /// Forgets the item of this number, which is out at this node. It takes no memory.
@@ -164,7 +147,7 @@ impl Queues {
         ensures spares { self.new.spares ≡ self.old.spares }
     {
         self.queues[at].done(id);
-        self.ready.put(at, ready_id(&self.queues[at]));
+        self.ready.put(at, self.queues[at].ready());
     }
 
     /// All items that wait at this node, in order, where none is out. It takes no memory.
@@ -176,7 +159,7 @@ impl Queues {
         ensures spares { self.new.spares ≡ set self.old.spares at 0 }
     {
         let items = self.queues[at].purge();
-        self.ready.put(at, ready_id(&self.queues[at]));
+        self.ready.put(at, self.queues[at].ready());
         items
     }
 }

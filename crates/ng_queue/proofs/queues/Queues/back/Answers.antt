@@ -8,7 +8,7 @@ pub invariant_of-self : goal.invariant_of-self
 invariant_of-self c =
     let lt = is_there c.self.inside.queues.items c.args.self.now c.args.at c.self.view_is c.requires.there in
     record {
-      ready = ready_put c.self.inside.queues.items c.args.at c.back.new.self c.index.result.now c.self.inside.ready c.put.new.self c.ready_id.result lt c.self.invariant.ready c.put.ensures c.ready_id.ensures c.index.ensures;
+      ready = ready_put c.self.inside.queues.items c.args.at c.back.new.self c.index.result.now c.self.inside.ready c.put.new.self c.ready.result lt c.self.invariant.ready c.put.ensures c.ready.ensures c.index.ensures;
       below = below_put c.self.inside.queues.items c.args.at c.back.new.self (item_id 18446744073709551615) lt (subst (IsBelow (item_id 18446744073709551615)) (sym c.back.ensures.entries) (below_put_back (item_id 18446744073709551615) c.args.item c.index_mut.result.now.entries (below_found c.self.inside.queues.items c.args.at c.index_mut.result.now (item_id 18446744073709551615) lt c.index_mut.ensures.value c.self.invariant.below))) c.self.invariant.below;
     }
 
@@ -19,7 +19,7 @@ returns-clause-lists c = lists_put c.self.inside.queues.items c.args.self.now c.
 pub put-requires-clause-id : goal.put-requires-clause-id
 put-requires-clause-id c =
     let lt = is_there c.self.inside.queues.items c.args.self.now c.args.at c.self.view_is c.requires.there in
-    ready_low c.self.inside.queues.items c.args.at c.back.new.self c.index.result.now c.ready_id.result lt (subst (IsBelow (item_id 18446744073709551615)) (sym c.back.ensures.entries) (below_put_back (item_id 18446744073709551615) c.args.item c.index_mut.result.now.entries (below_found c.self.inside.queues.items c.args.at c.index_mut.result.now (item_id 18446744073709551615) lt c.index_mut.ensures.value c.self.invariant.below))) c.ready_id.ensures c.index.ensures
+    ready_low c.self.inside.queues.items c.args.at c.back.new.self c.index.result.now c.ready.result lt (subst (IsBelow (item_id 18446744073709551615)) (sym c.back.ensures.entries) (below_put_back (item_id 18446744073709551615) c.args.item c.index_mut.result.now.entries (below_found c.self.inside.queues.items c.args.at c.index_mut.result.now (item_id 18446744073709551615) lt c.index_mut.ensures.value c.self.invariant.below))) c.ready.ensures c.index.ensures
 
 pub returns-clause-spares : goal.returns-clause-spares
 returns-clause-spares c = spares_kept c.self.inside.queues.items c.args.self.now c.args.at c.index_mut.result.now c.back.new.self c.self.view_is

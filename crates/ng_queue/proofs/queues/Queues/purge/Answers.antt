@@ -10,7 +10,7 @@ pub invariant_of-self : goal.invariant_of-self
 invariant_of-self c =
     let lt = is_there c.self.inside.queues.items c.args.self.now c.args.at c.self.view_is c.requires.there in
     record {
-      ready = ready_put c.self.inside.queues.items c.args.at c.purge-items.new.self c.index.result.now c.self.inside.ready c.put.new.self c.ready_id.result lt c.self.invariant.ready c.put.ensures c.ready_id.ensures c.index.ensures;
+      ready = ready_put c.self.inside.queues.items c.args.at c.purge-items.new.self c.index.result.now c.self.inside.ready c.put.new.self c.ready.result lt c.self.invariant.ready c.put.ensures c.ready.ensures c.index.ensures;
       below = below_put c.self.inside.queues.items c.args.at c.purge-items.new.self (item_id 18446744073709551615) lt (subst (IsBelow (item_id 18446744073709551615)) (sym (ap list_of c.purge-items.ensures.queue)) tt) c.self.invariant.below;
     }
 
@@ -21,7 +21,7 @@ returns-clause-lists c = lists_put c.self.inside.queues.items c.args.self.now c.
 pub put-requires-clause-id : goal.put-requires-clause-id
 put-requires-clause-id c =
     let lt = is_there c.self.inside.queues.items c.args.self.now c.args.at c.self.view_is c.requires.there in
-    ready_low c.self.inside.queues.items c.args.at c.purge-items.new.self c.index.result.now c.ready_id.result lt (subst (IsBelow (item_id 18446744073709551615)) (sym (ap list_of c.purge-items.ensures.queue)) tt) c.ready_id.ensures c.index.ensures
+    ready_low c.self.inside.queues.items c.args.at c.purge-items.new.self c.index.result.now c.ready.result lt (subst (IsBelow (item_id 18446744073709551615)) (sym (ap list_of c.purge-items.ensures.queue)) tt) c.ready.ensures c.index.ensures
 
 pub returns-clause-spares : goal.returns-clause-spares
 returns-clause-spares c = spares_put c.self.inside.queues.items c.args.self.now c.args.at c.purge-items.new.self c.self.view_is

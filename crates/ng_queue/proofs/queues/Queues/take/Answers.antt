@@ -8,19 +8,19 @@ pub invariant_of-self : goal.invariant_of-self
 invariant_of-self c =
     let lt = is_there c.self.inside.queues.items c.args.self.now c.args.at c.self.view_is (least_there c.args.self.now.lists c.args.at c.requires) in
     record {
-      ready = ready_put c.self.inside.queues.items c.args.at c.take.new.self c.index.result.now c.self.inside.ready c.put.new.self c.ready_id.result lt c.self.invariant.ready c.put.ensures c.ready_id.ensures c.index.ensures;
-      below = below_put c.self.inside.queues.items c.args.at c.take.new.self (item_id 18446744073709551615) lt (subst (IsBelow (item_id 18446744073709551615)) (sym c.in-Ok.ensures.entries) (below_take_out (item_id 18446744073709551615) c.in-Ok.item.id c.index_mut.result.now.entries (below_found c.self.inside.queues.items c.args.at c.index_mut.result.now (item_id 18446744073709551615) lt c.index_mut.ensures.value c.self.invariant.below))) c.self.invariant.below;
+      ready = ready_put c.self.inside.queues.items c.args.at c.take_head-item.new.self c.index.result.now c.self.inside.ready c.put.new.self c.ready.result lt c.self.invariant.ready c.put.ensures c.ready.ensures c.index.ensures;
+      below = below_put c.self.inside.queues.items c.args.at c.take_head-item.new.self (item_id 18446744073709551615) lt (subst (IsBelow (item_id 18446744073709551615)) (sym c.take_head-item.ensures.entries) (below_take_out (item_id 18446744073709551615) c.take_head-item.result.id c.index_mut.result.now.entries (below_found c.self.inside.queues.items c.args.at c.index_mut.result.now (item_id 18446744073709551615) lt c.index_mut.ensures.value c.self.invariant.below))) c.self.invariant.below;
     }
 
 pub returns-clause-lists : goal.returns-clause-lists
-returns-clause-lists c = lists_put c.self.inside.queues.items c.args.self.now c.args.at c.index_mut.result.now c.take.new.self (map (take_out c.in-Ok.item.id)) c.self.view_is
-    (is_there c.self.inside.queues.items c.args.self.now c.args.at c.self.view_is (least_there c.args.self.now.lists c.args.at c.requires)) c.index_mut.ensures.value c.in-Ok.ensures.entries
+returns-clause-lists c = lists_put c.self.inside.queues.items c.args.self.now c.args.at c.index_mut.result.now c.take_head-item.new.self (map (take_out c.take_head-item.result.id)) c.self.view_is
+    (is_there c.self.inside.queues.items c.args.self.now c.args.at c.self.view_is (least_there c.args.self.now.lists c.args.at c.requires)) c.index_mut.ensures.value c.take_head-item.ensures.entries
 
 pub put-requires-clause-id : goal.put-requires-clause-id
 put-requires-clause-id c =
     let lt = is_there c.self.inside.queues.items c.args.self.now c.args.at c.self.view_is (least_there c.args.self.now.lists c.args.at c.requires) in
-    ready_low c.self.inside.queues.items c.args.at c.take.new.self c.index.result.now c.ready_id.result lt (subst (IsBelow (item_id 18446744073709551615)) (sym c.in-Ok.ensures.entries) (below_take_out (item_id 18446744073709551615) c.in-Ok.item.id c.index_mut.result.now.entries (below_found c.self.inside.queues.items c.args.at c.index_mut.result.now (item_id 18446744073709551615) lt c.index_mut.ensures.value c.self.invariant.below))) c.ready_id.ensures c.index.ensures
+    ready_low c.self.inside.queues.items c.args.at c.take_head-item.new.self c.index.result.now c.ready.result lt (subst (IsBelow (item_id 18446744073709551615)) (sym c.take_head-item.ensures.entries) (below_take_out (item_id 18446744073709551615) c.take_head-item.result.id c.index_mut.result.now.entries (below_found c.self.inside.queues.items c.args.at c.index_mut.result.now (item_id 18446744073709551615) lt c.index_mut.ensures.value c.self.invariant.below))) c.ready.ensures c.index.ensures
 
 pub returns-clause-spares : goal.returns-clause-spares
-returns-clause-spares c = spares_kept c.self.inside.queues.items c.args.self.now c.args.at c.index_mut.result.now c.take.new.self c.self.view_is
-    (is_there c.self.inside.queues.items c.args.self.now c.args.at c.self.view_is (least_there c.args.self.now.lists c.args.at c.requires)) c.index_mut.ensures.value c.in-Ok.ensures.spare
+returns-clause-spares c = spares_kept c.self.inside.queues.items c.args.self.now c.args.at c.index_mut.result.now c.take_head-item.new.self c.self.view_is
+    (is_there c.self.inside.queues.items c.args.self.now c.args.at c.self.view_is (least_there c.args.self.now.lists c.args.at c.requires)) c.index_mut.ensures.value c.take_head-item.ensures.spare
