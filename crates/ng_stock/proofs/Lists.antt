@@ -2,7 +2,7 @@
 use Rattle.std.proofs.Common.{◌≡◌, ℕ, zero, suc, ◌+◌, ◌<◌, ◌≤◌, List, [], ◌∷◌, ◌++◌, map, replicate, length, get_or, take, refl, sym, ap, ◌∙◌, arith}
 use Rattle.std.specs.List.{All, flat_map}
 use Rattle.std.proofs.lemmas.List.{map-append, append_assoc, flat_map_more, take_more, take_all}
-use Rattle.std.proofs.lemmas.List.Elements.{All-nil, All-cons, All-head, All-tail, All-same, All-map}
+use Rattle.std.proofs.lemmas.List.Elements.{All-nil, All-cons, All-head, All-tail, All-same}
 use Rattle.std.proofs.lemmas.Simd.{map-map}
 use Rattle.ng_base.specs.declared.kind.Kind.{Kind}
 use Rattle.ng_base.specs.declared.kind.Kind.TheVariants.{Hub, Hole, Echo, Tee, Split, One2many, Bridge, Vlan, Patch, Bpf, Ether, Socket, Etf, Macset}
@@ -97,21 +97,3 @@ pub all_taken : {X : Type 0} (state : X → State) (nodes : List X) (first : Lis
     → length kinds ≤ i → map state nodes ≡ map blank_of (first ++ each count (take i kinds))
     → map state nodes ≡ map blank_of (first ++ each count kinds)
 all_taken state nodes first count kinds i all are = are ∙ ap (λ (l : List Kind). map blank_of (first ++ each count l)) (take_all i kinds all)
-
--- Nodes that are put into boxes, whose states are those of the nodes
-
-pub one_boxed : {X Y : Type 0} (state : X → State) (inside : Y → State) (boxes : List X) (nodes : List Y) (box : X) (node : Y)
-    → map state boxes ≡ map inside nodes → state box ≡ inside node → map state (boxes ++ box ∷ []) ≡ map inside (nodes ++ node ∷ [])
-one_boxed state inside boxes nodes box node so_far is = map-append state boxes (box ∷ []) ∙ ap (λ (l : List State). l ++ state box ∷ []) so_far
-    ∙ ap (λ (s : State). map inside nodes ++ s ∷ []) is ∙ sym (map-append inside nodes (node ∷ []))
-
-pub boxed_blank : {X Y : Type 0} (state : X → State) (inside : Y → State) (boxes : List X) (nodes : List Y)
-    → map state boxes ≡ map inside nodes → All (λ node. inside node ≡ blank_of (kind_of (inside node))) nodes
-    → All (λ box. state box ≡ blank_of (kind_of (state box))) boxes
-boxed_blank state inside boxes nodes same blank =
-    all_of_map IsBlank state boxes (All-same IsBlank (map state boxes) (map inside nodes) same (All-map IsBlank inside nodes blank))
-
-pub boxed_kinds : {X Y : Type 0} (state : X → State) (inside : Y → State) (boxes : List X) (nodes : List Y) (kinds : List Kind)
-    → map state boxes ≡ map inside nodes → map (λ node. kind_of (inside node)) nodes ≡ kinds → map (λ box. kind_of (state box)) boxes ≡ kinds
-boxed_kinds state inside boxes nodes kinds same are =
-    sym (map-map kind_of state boxes) ∙ ap (map kind_of) same ∙ map-map kind_of inside nodes ∙ are

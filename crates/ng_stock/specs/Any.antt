@@ -9,11 +9,11 @@ use Rattle.ng_patch_type.specs.State.{patch_state}
 use Rattle.ng_bpf_type.specs.State.{bpf_state}
 use Rattle.ng_edge_types.specs.State.{ether_state, socket_state}
 use Rattle.ng_filter_types.specs.State.{etf_state, macset_state}
-use Rattle.ng_stock.specs.declared.any_node.AnyNode.{AnyNode}
-use Rattle.ng_stock.specs.declared.any_node.AnyNode.TheVariants.{Hub, Hole, Echo, Tee, Split, One2many, Bridge, Vlan, Patch, Bpf, Ether, Socket, Etf, Macset}
+use Rattle.ng_stock.specs.declared.any_node.TypedNode.{TypedNode}
+use Rattle.ng_stock.specs.declared.any_node.TypedNode.TheVariants.{Hub, Hole, Echo, Tee, Split, One2many, Bridge, Vlan, Patch, Bpf, Ether, Socket, Etf, Macset}
 
 -- that of the node inside
-abbrev pub any_state : AnyNode → State
+abbrev pub any_state : TypedNode → State
 any_state (Hub node) = hub_state node
 any_state (Hole node) = hole_state node
 any_state (Echo node) = echo_state node

@@ -1,4 +1,5 @@
 // A node of any of the types.
+ghost use Rattle.std.specs.Prelude.{◌≡◌, IfOk};
 ghost use Rattle.ng_stock.specs.Any.{any_state};
 
 use ng_base::{Errno, Kind, Name, NoMemory};
@@ -16,11 +17,12 @@ use ng_simple_types::{EchoNode, HoleNode, HubNode, SplitNode};
 use ng_tee_type::TeeNode;
 use ng_vlan_type::VlanNode;
 use std::alloc::Global;
+use std::marker::Model;
 use std::sync::Arc;
 
 /// A node of one of the types.
 #[derive(Drop)]
-pub enum AnyNode {
+pub enum TypedNode {
     /// ng_hub(4)
     Hub(HubNode),
     /// ng_hole(4)
@@ -55,22 +57,52 @@ pub enum AnyNode {
 macro_rules! each {
     ($any:expr, $node:ident => $call:expr) => {
         match $any {
-            AnyNode::Hub($node) => $call,
-            AnyNode::Hole($node) => $call,
-            AnyNode::Echo($node) => $call,
-            AnyNode::Tee($node) => $call,
-            AnyNode::Split($node) => $call,
-            AnyNode::One2many($node) => $call,
-            AnyNode::Bridge($node) => $call,
-            AnyNode::Vlan($node) => $call,
-            AnyNode::Patch($node) => $call,
-            AnyNode::Bpf($node) => $call,
-            AnyNode::Ether($node) => $call,
-            AnyNode::Socket($node) => $call,
-            AnyNode::Etf($node) => $call,
-            AnyNode::Macset($node) => $call,
+            TypedNode::Hub($node) => $call,
+            TypedNode::Hole($node) => $call,
+            TypedNode::Echo($node) => $call,
+            TypedNode::Tee($node) => $call,
+            TypedNode::Split($node) => $call,
+            TypedNode::One2many($node) => $call,
+            TypedNode::Bridge($node) => $call,
+            TypedNode::Vlan($node) => $call,
+            TypedNode::Patch($node) => $call,
+            TypedNode::Bpf($node) => $call,
+            TypedNode::Ether($node) => $call,
+            TypedNode::Socket($node) => $call,
+            TypedNode::Etf($node) => $call,
+            TypedNode::Macset($node) => $call,
         }
     };
+}
+
+/// A node of one of the types, in a place of its own: a seat that takes an item for the node, and hands both on, moves a pointer.
+///
+/// A contract sees the node of the type.
+#[derive(Drop)]
+pub struct AnyNode {
+    place: Box<TypedNode>,
+}
+
+impl Model for AnyNode {
+    ghost use Rattle.ng_stock.specs.declared.any_node.TypedNode.{TypedNode};
+
+    ghost Value = { TypedNode };
+
+    ghost view = { λ n. n.place.value };
+}
+
+impl AnyNode {
+    /// The node of the type, in a place of its own.
+    ///
+    /// # Errors
+    /// `NoMemory` where memory ran out, and for nothing else.
+    pub fn new(alloc: Global, node: TypedNode) -> Result<AnyNode, NoMemory>
+        ensures { IfOk result (λ any. any ≡ node) }
+    {
+        Ok(AnyNode {
+            place: Box::new(alloc, node)?,
+        })
+    }
 }
 
 /// A call goes to the node of the type.
@@ -78,42 +110,42 @@ impl Node for AnyNode {
     ghost state = { any_state };
 
     fn kind(&self) -> Kind {
-        each!(self, node => node.kind())
+        each!(&*self.place, node => node.kind())
     }
 
     fn may(&self, hook: &Name) -> Result<(), Errno> {
-        each!(self, node => node.may(hook))
+        each!(&*self.place, node => node.may(hook))
     }
 
     fn newhook(&mut self, alloc: Global, hook: &Name) -> Result<(), NoMemory> {
-        each!(self, node => node.newhook(alloc, hook))
+        each!(&mut *self.place, node => node.newhook(alloc, hook))
     }
 
     fn cut(&mut self, hook: &Name) {
-        each!(self, node => node.cut(hook))
+        each!(&mut *self.place, node => node.cut(hook))
     }
 
     fn lasting(&self) -> bool {
-        each!(self, node => node.lasting())
+        each!(&*self.place, node => node.lasting())
     }
 
     fn plan(&self, alloc: Global) -> Result<Option<Arc<Plan>>, NoMemory> {
-        each!(self, node => node.plan(alloc))
+        each!(&*self.place, node => node.plan(alloc))
     }
 
     fn absorb(&mut self, counts: &Counts) {
-        each!(self, node => node.absorb(counts))
+        each!(&mut *self.place, node => node.absorb(counts))
     }
 
     fn answer(&self, alloc: Global, msg: &Msg) -> Result<Outcome, NoMemory> {
-        each!(self, node => node.answer(alloc, msg))
+        each!(&*self.place, node => node.answer(alloc, msg))
     }
 
     fn write(&mut self, alloc: Global, body: &Body) -> Result<Outcome, NoMemory> {
-        each!(self, node => node.write(alloc, body))
+        each!(&mut *self.place, node => node.write(alloc, body))
     }
 
     fn farewell(&self) -> Farewell {
-        each!(self, node => node.farewell())
+        each!(&*self.place, node => node.farewell())
     }
 }

@@ -4,7 +4,7 @@ ghost use Rattle.ng_machine.specs.State.{blank_of, kind_of};
 ghost use Rattle.ng_stock.specs.Any.{any_state};
 ghost use Rattle.ng_stock.specs.Stocked.{stocked};
 
-use crate::any_node::AnyNode;
+use crate::any_node::{AnyNode, TypedNode};
 use ng_base::{Kind, NoMemory};
 use ng_bpf_type::blank_bpf;
 use ng_bridge_type::blank_bridge;
@@ -40,24 +40,24 @@ const INNER_KINDS: [Kind; 12] = [
 ];
 
 // A blank node of the kind.
-fn blank(alloc: Global, kind: Kind) -> Result<AnyNode, NoMemory>
+fn blank(alloc: Global, kind: Kind) -> Result<TypedNode, NoMemory>
     ensures { IfOk result (λ node. any_state node ≡ blank_of kind) }
 {
     match kind {
-        Kind::Hub => Ok(AnyNode::Hub(blank_hub(alloc)?)),
-        Kind::Hole => Ok(AnyNode::Hole(blank_hole(alloc)?)),
-        Kind::Echo => Ok(AnyNode::Echo(blank_echo(alloc)?)),
-        Kind::Tee => Ok(AnyNode::Tee(blank_tee(alloc)?)),
-        Kind::Split => Ok(AnyNode::Split(blank_split(alloc)?)),
-        Kind::One2many => Ok(AnyNode::One2many(blank_one2many(alloc)?)),
-        Kind::Bridge => Ok(AnyNode::Bridge(blank_bridge(alloc)?)),
-        Kind::Vlan => Ok(AnyNode::Vlan(blank_vlan(alloc)?)),
-        Kind::Patch => Ok(AnyNode::Patch(blank_patch(alloc)?)),
-        Kind::Bpf => Ok(AnyNode::Bpf(blank_bpf(alloc)?)),
-        Kind::Ether => Ok(AnyNode::Ether(blank_ether(alloc)?)),
-        Kind::Socket => Ok(AnyNode::Socket(blank_socket(alloc)?)),
-        Kind::Etf => Ok(AnyNode::Etf(blank_etf(alloc)?)),
-        Kind::Macset => Ok(AnyNode::Macset(blank_macset(alloc)?)),
+        Kind::Hub => Ok(TypedNode::Hub(blank_hub(alloc)?)),
+        Kind::Hole => Ok(TypedNode::Hole(blank_hole(alloc)?)),
+        Kind::Echo => Ok(TypedNode::Echo(blank_echo(alloc)?)),
+        Kind::Tee => Ok(TypedNode::Tee(blank_tee(alloc)?)),
+        Kind::Split => Ok(TypedNode::Split(blank_split(alloc)?)),
+        Kind::One2many => Ok(TypedNode::One2many(blank_one2many(alloc)?)),
+        Kind::Bridge => Ok(TypedNode::Bridge(blank_bridge(alloc)?)),
+        Kind::Vlan => Ok(TypedNode::Vlan(blank_vlan(alloc)?)),
+        Kind::Patch => Ok(TypedNode::Patch(blank_patch(alloc)?)),
+        Kind::Bpf => Ok(TypedNode::Bpf(blank_bpf(alloc)?)),
+        Kind::Ether => Ok(TypedNode::Ether(blank_ether(alloc)?)),
+        Kind::Socket => Ok(TypedNode::Socket(blank_socket(alloc)?)),
+        Kind::Etf => Ok(TypedNode::Etf(blank_etf(alloc)?)),
+        Kind::Macset => Ok(TypedNode::Macset(blank_macset(alloc)?)),
     }
 }
 
@@ -66,7 +66,7 @@ fn add(alloc: Global, kind: Kind, count: u32, nodes: &mut Vec<AnyNode>) -> Resul
     ensures { OnOk result (map any_state nodes.new.items ≡ map any_state nodes.old.items ++ replicate count (blank_of kind)) }
 {
     for _ in 0..count {
-        nodes.push(blank(alloc, kind)?)?;
+        nodes.push(AnyNode::new(alloc, blank(alloc, kind)?)?)?;
     }
     Ok(())
 }

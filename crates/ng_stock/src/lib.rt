@@ -5,6 +5,6 @@ mod any_node;
 mod blanks;
 mod laws;
 
-pub use any_node::AnyNode;
+pub use any_node::{AnyNode, TypedNode};
 pub use blanks::stock;
 pub use laws::stock_suffices;

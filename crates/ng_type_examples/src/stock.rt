@@ -3,7 +3,7 @@ use crate::bench::try_case;
 use crate::steps::Case;
 use crate::steps::Step::{HasPlan, Hook};
 use ng_simple_types::blank_echo;
-use ng_stock::{AnyNode, stock};
+use ng_stock::{AnyNode, TypedNode, stock};
 use std::test::Fail;
 
 #[test]
@@ -28,7 +28,7 @@ fn calls_go_to_the_node(rt: HostRuntime) -> Result<(), Fail> {
         &rt,
         alloc,
         ECHO,
-        AnyNode::Echo(blank_echo(alloc)?),
+        AnyNode::new(alloc, TypedNode::Echo(blank_echo(alloc)?))?,
         &ANY_HOOK,
     )
 }
