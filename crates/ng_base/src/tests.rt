@@ -3,7 +3,7 @@ ghost use Rattle.std.specs.Prelude.{◌≡◌, ◌++◌, ◌∷◌, [], ◌⊎�
 ghost use Rattle.ng_base.specs.Name.{name_fault};
 ghost use Rattle.ng_base.specs.declared.memory.Stop.TheVariants.{Fault as TheFault, NoMemory as out_of_memory};
 
-use crate::{Name, NameFault, Names, Packet, Sequence, Stop};
+use crate::{Name, NameFault, NameIndex, Names, Packet, Sequence, Stop};
 use std::alloc::Global;
 use std::test::Fail;
 
@@ -67,6 +67,27 @@ fn names_are_listed_in_order(rt: HostRuntime) -> Result<(), Fail> {
         names.as_slice(),
         [Name::read(b"b")?, Name::read(b"c")?].as_slice()
     );
+    Ok(())
+}
+
+#[test]
+fn names_are_found_in_an_index(rt: HostRuntime) -> Result<(), Fail> {
+    let mut index = NameIndex::new(rt.alloc());
+    for text in ["c", "a", "d", "b", "c"] {
+        index.reserve()?;
+        index.add(Name::read(text.as_bytes())?);
+    }
+    index.remove(&Name::read(b"a")?);
+    let again = index.again(rt.alloc())?;
+    assert!(rt; !again.has(&Name::read(b"a")?));
+    for text in ["b", "c", "d"] {
+        assert!(rt; again.has(&Name::read(text.as_bytes())?));
+    }
+    index.remove(&Name::read(b"c")?);
+    assert!(rt; !index.has(&Name::read(b"c")?));
+    assert!(rt; index.has(&Name::read(b"d")?));
+    let names = Names::with_index(Vec::new(rt.alloc()), NameIndex::new(rt.alloc()));
+    assert!(rt; names.as_slice().is_empty());
     Ok(())
 }
 

@@ -2,26 +2,31 @@
 ghost use Rattle.std.specs.Prelude.{◌≡◌, ◌<◌, [], ◌∷◌, ◌++◌, false, IfOk, OnOk};
 ghost use Rattle.ng_base.specs.Names.{has_name, without_name};
 
-use ng_base::{Name, Names, NoMemory};
+use ng_base::{Name, NameIndex, Names, NoMemory};
 use std::alloc::Global;
 use std::marker::Model;
 
-/// The names of a node's hooks, in the order in which they were made.
+/// The names of a node's hooks, in the order in which they were made. An index of them tells whether there is a hook of a
+/// name, so that takes no longer where there are thousands.
 ///
 /// A contract sees the names, and for how many more there is memory. A type whose hook brings more than its
 /// name reserves memory for all of it first, and then adds what cannot fail.
 #[derive(Drop)]
 pub struct HookList {
     names: Vec<Name>,
+    index: NameIndex,
 }
 
 impl Model for HookList {
-    ghost use Rattle.std.specs.Prelude.{◌-◌, vec_len, vec_capacity};
+    ghost use Rattle.std.specs.Prelude.{◌-◌, min, vec_len, vec_capacity};
+    ghost use Rattle.ng_base.specs.NameIndex.{IsIndexOf};
     ghost use Rattle.ng_node.specs.Hooks.{Hooks};
 
     ghost Value = { Hooks };
 
-    ghost view = { λ h. record { names = h.names.items; room = vec_capacity h.names - vec_len h.names } };
+    ghost view = { λ h. record { names = h.names.items; room = min (vec_capacity h.names - vec_len h.names) h.index.room } };
+
+    ghost invariant = { λ h. IsIndexOf h.names.items h.index.names };
 }
 
 impl HookList {
@@ -31,6 +36,7 @@ impl HookList {
     {
         HookList {
             names: Vec::new(alloc),
+            index: NameIndex::new(alloc),
         }
     }
 
@@ -45,7 +51,7 @@ impl HookList {
     pub fn has(&self, name: &Name) -> bool
         ensures { result ≡ has_name self.now.names name.now }
     {
-        self.names.iter().any(|other| *other == *name)
+        self.index.has(name)
     }
 
     /// Takes the memory for one more hook.
@@ -57,6 +63,7 @@ impl HookList {
         ensures same { self.new.names ≡ self.old.names }
     {
         self.names.reserve(1)?;
+        self.index.reserve()?;
         Ok(())
     }
 
@@ -68,9 +75,8 @@ impl HookList {
         ensures added { self.new.names ≡ self.old.names ++ name ∷ [] }
         ensures undone { without_name self.new.names name ≡ self.old.names }
     {
-        let Ok(()) = self.names.push(name) else {
-            unreachable!()
-        };
+        self.names.push_reserved(name);
+        self.index.add(name);
     }
 
     /// Takes the hook of this name out.
@@ -78,6 +84,7 @@ impl HookList {
         ensures { self.new.names ≡ without_name self.old.names name.now }
     {
         self.names.retain(|other| *other != *name);
+        self.index.remove(name);
     }
 
     /// A copy of the names, as a plan holds them.
@@ -87,10 +94,7 @@ impl HookList {
     pub fn names(&self, alloc: Global) -> Result<Names, NoMemory>
         ensures { IfOk result (λ names. names ≡ self.now.names) }
     {
-        let mut names = Names::new(alloc);
-        for name in &self.names {
-            names.push(*name)?;
-        }
-        Ok(names)
+        let names = Vec::from_slice(alloc, &self.names)?;
+        Ok(Names::with_index(names, self.index.again(alloc)?))
     }
 }

@@ -58,63 +58,6 @@ told_send = search (sendable, crosses, maps) depth 40
 pub input_send : IsSend Input.the_row
 input_send = search (name_send, sendable, crosses, maps) depth 90 fits 300000
 
-pub lookup_send : IsSend Lookup.the_row
-lookup_send = search (sendable, crosses, maps) depth 90 fits 300000
-
-pub lookup_sync : IsSync Lookup.the_row
-lookup_sync = search (sendable, crosses, maps) depth 90 fits 300000
-
-pub filters_send : IsSend Filters.the_row
-filters_send = search (sendable, crosses, maps) depth 90 fits 300000
-
-pub filters_sync : IsSync Filters.the_row
-filters_sync = search (sendable, crosses, maps) depth 90 fits 300000
-
-pub program_send : IsSend Program.the_row
-program_send = search (sendable, crosses, maps) depth 90 fits 300000
-
-pub program_sync : IsSync Program.the_row
-program_sync = search (sendable, crosses, maps) depth 90 fits 300000
-
-pub bridge_send : IsSend BridgePlan.the_row
-bridge_send = search (sendable, crosses, maps) depth 90 fits 300000
-
-pub bridge_sync : IsSync BridgePlan.the_row
-bridge_sync = search (sendable, crosses, maps) depth 90 fits 300000
-
-pub bpf_send : IsSend BpfPlan.the_row
-bpf_send = search (program_send, sendable, crosses, maps) depth 90 fits 300000
-
-pub bpf_sync : IsSync BpfPlan.the_row
-bpf_sync = search (program_sync, sendable, crosses, maps) depth 90 fits 300000
-
-pub etf_send : IsSend EtfPlan.the_row
-etf_send = search (lookup_send, sendable, crosses, maps) depth 90 fits 300000
-
-pub etf_sync : IsSync EtfPlan.the_row
-etf_sync = search (lookup_sync, sendable, crosses, maps) depth 90 fits 300000
-
-pub macset_send : IsSend MacsetPlan.the_row
-macset_send = search (lookup_send, sendable, crosses, maps) depth 90 fits 300000
-
-pub macset_sync : IsSync MacsetPlan.the_row
-macset_sync = search (lookup_sync, sendable, crosses, maps) depth 90 fits 300000
-
-pub patch_send : IsSend PatchPlan.the_row
-patch_send = search (lookup_send, sendable, crosses, maps) depth 90 fits 300000
-
-pub patch_sync : IsSync PatchPlan.the_row
-patch_sync = search (lookup_sync, sendable, crosses, maps) depth 90 fits 300000
-
-pub vlan_send : IsSend VlanPlan.the_row
-vlan_send = search (lookup_send, filters_send, sendable, crosses, maps) depth 90 fits 300000
-
-pub vlan_sync : IsSync VlanPlan.the_row
-vlan_sync = search (lookup_sync, filters_sync, sendable, crosses, maps) depth 90 fits 300000
-
-pub form_send : IsSend Form.the_row
-form_send = search (lookup_send, filters_send, program_send, bridge_send, bpf_send, etf_send, macset_send, patch_send, vlan_send, sendable, crosses, maps) depth 90 fits 300000
-
 lookup_field_send : IsSend (Lookup.the_field).row
 lookup_field_send = search (sendable, crosses, maps) depth 90 fits 300000
 
@@ -177,9 +120,6 @@ form_field_sync = search (lookup_field_sync, filters_field_sync, program_field_s
 
 pub plan_send : IsSend Plan.the_row
 plan_send = let a : IsSend (Form.the_field).row = form_field_send in search (sendable, crosses, maps) depth 40
-
-pub form_sync : IsSync Form.the_row
-form_sync = search (lookup_sync, filters_sync, program_sync, bridge_sync, bpf_sync, etf_sync, macset_sync, patch_sync, vlan_sync, sendable, crosses, maps) depth 90 fits 300000
 
 pub plan_sync : IsSync Plan.the_row
 plan_sync = let a : IsSync (Form.the_field).row = form_field_sync in search (sendable, crosses, maps) depth 40

@@ -9,6 +9,6 @@ pub returns-clause-undone : goal.returns-clause-undone
 returns-clause-undone c =
     let same : c.self.inside.names.items ≡ c.args.self.now.names = ap (λ (h : Hooks). h.names) c.self.view_is in
     let fresh : has_name c.self.inside.names.items c.args.name ≡ false = subst (λ (names : List (List ℕ)). has_name names c.args.name ≡ false) (sym same) c.requires.fresh in
-    ap (λ (names : List (List ℕ)). without_name names c.args.name) c.in-Ok.ensures.items
+    ap (λ (names : List (List ℕ)). without_name names c.args.name) c.push_reserved.ensures.items
     ∙ without_name-added c.self.inside.names.items c.args.name fresh
     ∙ same
