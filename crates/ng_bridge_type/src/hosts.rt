@@ -69,11 +69,11 @@ impl Hosts {
     pub fn ways(&self, alloc: Global) -> Result<Sequence<BridgeHost>, NoMemory>
         ensures { IfOk result (λ ways. ways ≡ map host_way self.now) }
     {
-        let mut ways = Sequence::new(alloc);
+        let mut ways = Vec::with_capacity(alloc, self.hosts.len())?;
         for host in &self.hosts {
-            ways.push(host.way())?;
+            ways.push_reserved(host.way());
         }
-        Ok(ways)
+        Ok(Sequence::from_vec(ways))
     }
 
     /// Appends the hosts as rows of the table.

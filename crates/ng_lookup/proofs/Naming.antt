@@ -1,5 +1,5 @@
 -- The places of entries under their names.
-use Rattle.std.proofs.Common.{◌≡◌, ℕ, suc, ◌+◌, ◌<◌, Bool, false, cond, List, [], ◌∷◌, ◌++◌, length, take, find, get_or, is_some, subst, if◌then◌else◌, Option, Some, None, refl, sym, ap, ◌∙◌, inl, inr, arith, true≢false}
+use Rattle.std.proofs.Common.{◌≡◌, ℕ, suc, ◌+◌, ◌<◌, Bool, cond, List, [], ◌∷◌, ◌++◌, length, take, find, get_or, is_some, subst, if◌then◌else◌, Option, Some, None, refl, sym, ap, ◌∙◌, inl, inr, arith}
 use Rattle.std.specs.BTreeMap.{BTreeMap, get, Updates}
 use Rattle.std.specs.Cmp.Lexicographic.{slice_cmp}
 use Rattle.std.specs.List.{list_any, position_from}
@@ -76,20 +76,33 @@ or_none : {X : Type 0} (o : Option X) → o ≡ option_or o None
 or_none None = refl
 or_none (Some x) = refl
 
-nothing : {X : Type 0} (o : Option X) → is_some o ≡ false → o ≡ None
-nothing None e = refl
-nothing (Some x) e = absurd (true≢false e)
-
 -- a place that is put under a name that wasn't there
 pub puts_first : (m n : BTreeMap (List ℕ) ℕ) (name : List ℕ) (place : ℕ)
-    → is_some (get (slice_cmp nat_cmp) m name) ≡ false → Updates (slice_cmp nat_cmp) m n name (Some place) → PutsFirst m n name place
+    → get (slice_cmp nat_cmp) m name ≡ None → Updates (slice_cmp nat_cmp) m n name (Some place) → PutsFirst m n name place
 puts_first m n name place lacking updates = λ other.
     updates.0 other
     ∙ ap (λ (b : Bool). cond b (Some place) (get (slice_cmp nat_cmp) m other)) (is_eq-slice_cmp name other)
     ∙ elim (cases_Bool (bytes_eq name other)) [
       | inl is ↦
           let same : name ≡ other = is_same name other is in
-          let lacks : get (slice_cmp nat_cmp) m other ≡ None = subst (λ (q : List ℕ). get (slice_cmp nat_cmp) m q ≡ None) same (nothing (get (slice_cmp nat_cmp) m name) lacking) in
+          let lacks : get (slice_cmp nat_cmp) m other ≡ None = subst (λ (q : List ℕ). get (slice_cmp nat_cmp) m q ≡ None) same lacking in
           rw (is, lacks) refl
       | inr apart ↦ rw apart (or_none (get (slice_cmp nat_cmp) m other))
+    ]
+
+-- a place that is put under a name that was there, and goes again for the one before it
+pub puts_back : (m k n : BTreeMap (List ℕ) ℕ) (name : List ℕ) (place first : ℕ)
+    → get (slice_cmp nat_cmp) m name ≡ Some first → Updates (slice_cmp nat_cmp) m k name (Some place) → Updates (slice_cmp nat_cmp) k n name (Some first) → PutsFirst m n name place
+puts_back m k n name place first there put back = λ other.
+    back.0 other
+    ∙ ap (λ (b : Bool). cond b (Some first) (get (slice_cmp nat_cmp) k other)) (is_eq-slice_cmp name other)
+    ∙ elim (cases_Bool (bytes_eq name other)) [
+      | inl is ↦
+          let same : name ≡ other = is_same name other is in
+          let had : get (slice_cmp nat_cmp) m other ≡ Some first = subst (λ (q : List ℕ). get (slice_cmp nat_cmp) m q ≡ Some first) same there in
+          rw (is, had) refl
+      | inr apart ↦
+          let kept : get (slice_cmp nat_cmp) k other ≡ get (slice_cmp nat_cmp) m other =
+          put.0 other ∙ ap (λ (b : Bool). cond b (Some place) (get (slice_cmp nat_cmp) m other)) (is_eq-slice_cmp name other ∙ apart) in
+          rw (apart, kept) (or_none (get (slice_cmp nat_cmp) m other))
     ]

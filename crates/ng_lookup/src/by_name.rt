@@ -59,12 +59,12 @@ impl Named for BridgeLink {
 /// The places of entries in their list, under their names.
 pub type Places = BTreeMap<Name, usize>;
 
-/// Puts a place under a name, where there is none yet.
+//// Puts a place under a name, where there is none yet: what was there goes back.
 fn put_first(places: &mut Places, name: Name, place: usize) -> Result<(), NoMemory>
     ensures { OnOk result (PutsFirst places.old places.new name place) }
 {
-    if !places.contains_key(&name) {
-        places.insert(name, place)?;
+    if let Some(first) = places.insert(name, place)? {
+        places.insert(name, first)?;
     }
     Ok(())
 }

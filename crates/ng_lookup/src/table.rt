@@ -30,10 +30,16 @@ impl<T: Key> Model for Table<T> {
 fn ascends<T: Key>(entries: &[T]) -> bool
     ensures { IsTrue result → IsAscending T.key_of entries.now }
 {
+    if entries.is_empty() {
+        return true;
+    }
+    let mut last = entries[0].key();
     for place in 1..entries.len() {
-        if entries[place - 1].key() >= entries[place].key() {
+        let key = entries[place].key();
+        if last >= key {
             return false;
         }
+        last = key;
     }
     true
 }

@@ -55,19 +55,19 @@ impl Plan {
             Way::Fan { hooks } => Form::OfHub(hooks),
             Way::Ways { kind, hooks } => Form::ByHooks {
                 kind,
-                hooks: Hooks::new(alloc, hooks)?,
+                hooks: Hooks::new(hooks),
             },
             Way::Vlan {
                 hooks,
                 kind,
                 filters,
             } => Form::OfVlan(VlanPlan {
-                hooks: Hooks::new(alloc, hooks)?,
+                hooks: Hooks::new(hooks),
                 kind,
                 filters: Filters::new(alloc, filters)?,
             }),
             Way::Patch { hooks, ops } => Form::OfPatch(PatchPlan {
-                hooks: Hooks::new(alloc, hooks)?,
+                hooks: Hooks::new(hooks),
                 ops: Operations::new(ops),
             }),
             Way::Bpf { hooks } => Form::OfBpf(BpfPlan {
@@ -85,11 +85,11 @@ impl Plan {
                 hosts: Table::new(hosts),
             }),
             Way::Etf { hooks, filters } => Form::OfEtf(EtfPlan {
-                hooks: Hooks::new(alloc, hooks)?,
+                hooks: Hooks::new(hooks),
                 filters: Table::new(filters),
             }),
             Way::Macset { hooks, set } => Form::OfMacset(MacsetPlan {
-                hooks: Hooks::new(alloc, hooks)?,
+                hooks: Hooks::new(hooks),
                 set: Table::new(set),
             }),
         };
