@@ -1,5 +1,5 @@
 -- Hooks of different names: the place of a name, and what a change at that place comes to.
-use Rattle.std.proofs.Common.{◌≡◌, ℕ, suc, ◌+◌, ◌<◌, Bool, true, false, cond, ◌==◌, List, [], ◌∷◌, ◌++◌, length, map, find, set, get_or, is_some, Option, Some, None, refl, sym, ap, subst, ◌∙◌, inl, inr, arith}
+use Rattle.std.proofs.Common.{◌≡◌, ℕ, zero, suc, ◌+◌, ◌<◌, Bool, true, false, cond, ◌==◌, List, [], ◌∷◌, ◌++◌, length, map, find, set, get_or, is_some, Option, Some, None, refl, sym, ap, subst, ◌∙◌, inl, inr, arith}
 use Rattle.std.specs.Prelude.{remove, IsSome}
 use Rattle.std.specs.List.{position_from}
 use Rattle.std.specs.BTreeMap.{BTreeMap, get, Updates}
@@ -88,6 +88,44 @@ lacks_map name f (hook ∷ hooks) none = elim (cases_Bool (is_named name hook)) 
   | inl is ↦ let same : Some hook ≡ None = rw is at none in absurd (cc same)
   | inr other ↦ rw other (ap (λ (l : List Hook). hook ∷ l) (lacks_map name f hooks (rw other at none)))
 ]
+
+-- where names differ, the hook of a name has the first place of it
+
+not_at : (test : Hook → Bool) (hooks : List Hook) (k : ℕ) (d : Hook) → find test hooks ≡ None → k < length hooks → test (get_or hooks k d) ≡ false
+not_at test [] k d none below = absurd (omega arith)
+not_at test (x ∷ hooks) zero d none below = elim (cases_Bool (test x)) [
+  | inl is ↦ let same : Some x ≡ None = rw is at none in absurd (cc same)
+  | inr other ↦ other
+]
+not_at test (x ∷ hooks) (suc k) d none below = elim (cases_Bool (test x)) [
+  | inl is ↦ let same : Some x ≡ None = rw is at none in absurd (cc same)
+  | inr other ↦ not_at test hooks k d (rw other at none) (omega arith)
+]
+
+named_from : (name : List ℕ) (hooks : List Hook) (j k : ℕ) (d : Hook) → NamesDiffer hooks → k < length hooks → is_named name (get_or hooks k d) ≡ true → position_from (is_named name) j hooks ≡ Some (j + k)
+named_from name [] j k d differ below is = absurd (omega arith)
+named_from name (x ∷ hooks) j zero d differ below is = rw is (ap Some (omega arith))
+named_from name (x ∷ hooks) j (suc k) d differ below is = elim (cases_Bool (is_named name x)) [
+  | inl first ↦
+      let never : is_named name (get_or hooks k d) ≡ false = not_at (is_named name) hooks k d (no_other name x hooks differ first) (omega arith) in
+      let same : true ≡ false = sym is ∙ never in
+      absurd (cc same)
+  | inr other ↦ rw other (named_from name hooks (j + 1) k d differ.1 (omega arith) is ∙ ap Some (omega arith))
+]
+
+pub place_of_named : (name : List ℕ) (hooks : List Hook) (m : BTreeMap (List ℕ) Hook) (k : ℕ) (d : Hook) → AreConsistent hooks m → k < length hooks → is_named name (get_or hooks k d) ≡ true → position_from (is_named name) 0 hooks ≡ Some k
+place_of_named name hooks m k d consistent below is = named_from name hooks 0 k d consistent.differ below is ∙ ap Some (omega arith)
+
+lacks_place : (name : List ℕ) (hooks : List Hook) (j : ℕ) → find (is_named name) hooks ≡ None → position_from (is_named name) j hooks ≡ None
+lacks_place name [] j none = refl
+lacks_place name (x ∷ hooks) j none = elim (cases_Bool (is_named name x)) [
+  | inl is ↦ let same : Some x ≡ None = rw is at none in absurd (cc same)
+  | inr other ↦ rw other (lacks_place name hooks (j + 1) (rw other at none))
+]
+
+-- what is not in the index is not in the list
+pub no_place : (name : List ℕ) (hooks : List Hook) (m : BTreeMap (List ℕ) Hook) → AreConsistent hooks m → get (slice_cmp nat_cmp) m name ≡ None → position_from (is_named name) 0 hooks ≡ None
+no_place name hooks m consistent none = lacks_place name hooks 0 (sym (consistent.indexed name) ∙ none)
 
 -- ONE MORE
 

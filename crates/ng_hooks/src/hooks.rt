@@ -1,5 +1,5 @@
 // The hooks of a node, in the order in which they were made.
-ghost use Rattle.std.specs.Prelude.{◌≡◌, ◌<◌, ◌++◌, ◌∷◌, [], find, length, map, is_some, None, Some, IfOk, IsSome, OnOk, OnErr};
+ghost use Rattle.std.specs.Prelude.{◌≡◌, ◌≤◌, ◌<◌, ◌++◌, ◌∷◌, [], find, length, map, is_some, None, Some, IfOk, IsSome, IsTrue, OnOk, OnErr};
 ghost use Rattle.std.specs.BTreeMap.{get, Updates};
 ghost use Rattle.std.specs.Cmp.Lexicographic.{slice_cmp};
 ghost use Rattle.std.specs.Option.{option_copied};
@@ -112,10 +112,35 @@ impl Hooks {
         self.items.as_slice()
     }
 
-    // The place of the hook of that name, if there is one.
+    // Whether the hook of that name stands at a place.
+    #[tactic(auto, using(crate::proofs::HookLemmas::place_of_named))]
+    fn is_at(&self, place: usize, name: &Name) -> bool
+        ensures { IsTrue result → position_from (is_named name.now) 0 self.now ≡ Some place }
+    {
+        place < self.items.len() && self.items[place].name == *name
+    }
+
+    // The place of the first hook whose link isn't below this one, where links ascend.
+    fn first_from(&self, link: LinkId) -> usize
+        ensures { result ≤ length self.now }
+    {
+        self.items.partition_point(|hook| hook.link.0 < link.0)
+    }
+
+    // The place of the hook of that name, if there is one. A hook that is made later has no lower link, but where one was
+    // bound anew, and two of one node may have the same: so it is looked for by its link first, and then one by one.
+    #[tactic(auto, using(crate::proofs::HookLemmas::no_place))]
     fn place(&self, name: &Name) -> Option<usize>
         ensures { result ≡ position_from (is_named name.now) 0 self.now }
     {
+        let hook = self.index.get(name)?;
+        let first = self.first_from(hook.link);
+        if self.is_at(first, name) {
+            return Some(first);
+        }
+        if self.is_at(first + 1, name) {
+            return Some(first + 1);
+        }
         self.items.iter().position(|hook| hook.name == *name)
     }
 
@@ -123,6 +148,20 @@ impl Hooks {
     pub fn find(&self, name: &Name) -> Option<&Hook>
         ensures { option_copied result ≡ find (is_named name.now) self.now }
     {
+        self.index.get(name)
+    }
+
+    /// The hook of that name, if there is one. It is looked for at a place and at the next one first, so whoever asks for hooks
+    /// in their order finds each at once.
+    pub fn find_near(&self, name: &Name, near: usize) -> Option<&Hook>
+        ensures { option_copied result ≡ find (is_named name.now) self.now }
+    {
+        if self.is_at(near, name) {
+            return Some(&self.items[near]);
+        }
+        if near < self.items.len() && self.is_at(near + 1, name) {
+            return Some(&self.items[near + 1]);
+        }
         self.index.get(name)
     }
 

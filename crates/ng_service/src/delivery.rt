@@ -39,15 +39,17 @@ fn follow<B: Node>(state: &mut State<B>, also: Option<Follower>, stamp: Stamp)
     }
 }
 
-// Packets are sent out of hooks of a node, in order.
+// Packets are sent out of hooks of a node, in order. A hub sends by its hooks in their order, but for one of them.
 fn post_all<B: Node>(state: &mut State<B>, from: NodeId, sends: Sends, stamp: Stamp)
     requires standing { IsStanding state.old }
     requires room { HasRoom (wants (node_in state.old.graph.nodes from) sends) state.old.pending }
     requires numbers { HasNumbers (length sends) state.old.pending.tally }
     ensures { (a : RunState) → Stands state.old a → Stands state.new (in_world a (change_all from stamp a.world (posts sends))) }
 {
+    let mut near = 0usize;
     for (hook, packet) in sends.into_vec() {
-        state.post(from, &hook, packet, stamp);
+        state.post(from, &hook, near, packet, stamp);
+        near = near.wrapping_add(1);
     }
 }
 

@@ -49,7 +49,7 @@ fn widen_port<B: Node>(state: &mut State<B>, at: NodeId, more: usize) -> Result<
     widen_ports(&mut state.ports, port_of(at), more)
 }
 
-// Room for the packets that are sent out of hooks of a node.
+// Room for the packets that are sent out of hooks of a node. A hub sends by its hooks in their order, but for one of them.
 fn widen_sends<B: Node>(
     state: &mut State<B>,
     from: NodeId,
@@ -62,8 +62,10 @@ fn widen_sends<B: Node>(
     ensures lists { state.new.pending.queues.lists ≡ state.old.pending.queues.lists }
     ensures tally { state.new.pending.tally ≡ state.old.pending.tally }
 {
+    let mut near = 0usize;
     for send in sends {
-        state.widen_for(from, &send.0)?;
+        state.widen_for(from, &send.0, near)?;
+        near = near.wrapping_add(1);
     }
     Ok(())
 }

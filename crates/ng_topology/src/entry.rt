@@ -133,6 +133,13 @@ impl<B: Node> Entry<B> {
         self.hooks.find(name)
     }
 
+    /// The hook of that name, if there is one, which is looked for at a place and at the next one first.
+    pub fn hook_near(&self, name: &Name, near: usize) -> Option<&Hook>
+        ensures { option_copied result ≡ hook_of self.now.node name.now }
+    {
+        self.hooks.find_near(name, near)
+    }
+
     /// Whether the box is at home.
     pub fn is_home(&self) -> bool
         ensures { result ≡ self.now.home }

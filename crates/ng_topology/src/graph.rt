@@ -153,6 +153,17 @@ impl<B: Node> Graph<B> {
         }
     }
 
+    /// The hook of that name at the node of that number, if both are there. It is looked for at a place among the node's hooks
+    /// and at the next one first, so whoever asks for hooks in their order finds each at once.
+    pub fn peer_near(&self, id: NodeId, hook: &Name, near: usize) -> Option<&Hook>
+        ensures { option_copied result ≡ hook_at (node_in self.now.nodes id) hook.now }
+    {
+        match self.places.entry(id) {
+            Some(entry) => entry.hook_near(hook, near),
+            None => None,
+        }
+    }
+
     /// Whether the node of that number is there, and its hook of that name has that link.
     pub fn has_link(&self, id: NodeId, hook: &Name, link: LinkId) -> bool
         ensures { result ≡ is_some (linked_hook_at (node_in self.now.nodes id) hook.now link) }

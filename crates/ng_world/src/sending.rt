@@ -31,11 +31,11 @@ fn arrival(hook: Hook, packet: Packet) -> Body
 }
 
 impl<B: Node> State<B> {
-    // The hook of that name at the node of that number, where both are there.
-    fn hook(&self, id: NodeId, name: &Name) -> Option<Hook>
+    // The hook of that name at the node of that number, where both are there. It is looked for near a place first.
+    fn hook(&self, id: NodeId, name: &Name, near: usize) -> Option<Hook>
         ensures { result ≡ hook_at (node_in self.now.graph.nodes id) name.now }
     {
-        self.graph.peer(id, name).copied()
+        self.graph.peer_near(id, name, near).copied()
     }
 
     /// An item is accepted at a node that is there: it gets the next number and its mode, and stands last.
@@ -90,8 +90,9 @@ impl<B: Node> State<B> {
         self.accept(hook.peer.node, kind, arrival(hook, packet), None, stamp);
     }
 
-    /// A packet is sent out of a hook of the node, where that is there.
-    pub fn post(&mut self, from: NodeId, hook: &Name, packet: Packet, stamp: Stamp)
+    /// A packet is sent out of a hook of the node, where that is there. The hook is looked for near a place among the node's
+    /// hooks first.
+    pub fn post(&mut self, from: NodeId, hook: &Name, near: usize, packet: Packet, stamp: Stamp)
         requires standing { IsStanding self.old }
         requires room { HasRoom (λ n. one (goes_to (hook_at (node_in self.old.graph.nodes from) hook.now) n)) self.old.pending }
         requires numbers { HasNumbers 1 self.old.pending.tally }
@@ -101,7 +102,7 @@ impl<B: Node> State<B> {
         ensures lists { length self.new.pending.queues.lists ≡ length self.old.pending.queues.lists }
         ensures numbers { (k : ℕ) → HasNumbers (k + 1) self.old.pending.tally → HasNumbers k self.new.pending.tally }
     {
-        match self.hook(from, hook) {
+        match self.hook(from, hook, near) {
             Some(hook) => self.send(hook, packet, stamp),
             None => self.lose(Cause::NoPeer),
         }
@@ -135,11 +136,11 @@ impl<B: Node> State<B> {
         }
     }
 
-    /// Makes room for one packet more that is sent out of a hook of the node.
+    /// Makes room for one packet more that is sent out of a hook of the node, which is looked for near a place first.
     ///
     /// # Errors
     /// `NoMemory` where memory ran out, and for nothing else; nothing but room changed.
-    pub fn widen_for(&mut self, from: NodeId, name: &Name) -> Result<(), NoMemory>
+    pub fn widen_for(&mut self, from: NodeId, name: &Name, near: usize) -> Result<(), NoMemory>
         ensures stands { (a : RunState) → Stands self.old a → Stands self.new a }
         ensures room { OnOk result ((n : ℕ) → n < length self.old.pending.queues.lists
             → spare_at self.old.pending.queues.spares n + one (goes_to (hook_at (node_in self.old.graph.nodes from) name.now) n) ≤ spare_at self.new.pending.queues.spares n) }
@@ -147,7 +148,7 @@ impl<B: Node> State<B> {
         ensures graph { self.new.graph ≡ self.old.graph }
         ensures tally { self.new.pending.tally ≡ self.old.pending.tally }
     {
-        let Some(hook) = self.hook(from, name) else {
+        let Some(hook) = self.hook(from, name, near) else {
             return Ok(());
         };
         if hook.peer.node.0 as usize >= self.pending.queues.len() {
