@@ -1,0 +1,3 @@
+pub mod Shorts
+pub mod Journal
+pub mod JournalFields
