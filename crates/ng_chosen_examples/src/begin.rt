@@ -9,9 +9,10 @@ ghost use Rattle.ng_seats.specs.Calls.{are_different};
 
 use crate::accounts::are_accounted;
 use crate::fitting::all_fit;
-use ng_base::{Event, Name, NoMemory};
+use ng_base::{Name, NoMemory};
 use ng_bridge_type::blank_bridge;
 use ng_edge_types::{blank_ether, blank_socket};
+use ng_events::Journal;
 use ng_judge::{Verdict, judge};
 use ng_machine::{Input, Totals};
 use ng_node::Node;
@@ -32,7 +33,7 @@ pub(crate) struct Summary {
     pub(crate) totals: Totals,
     pub(crate) ended: bool,
     pub(crate) accounted: bool,
-    pub(crate) journal: Vec<Event>,
+    pub(crate) journal: Journal,
 }
 
 fn socket(alloc: Global) -> Result<Box<dyn Node + Send>, Fail>
@@ -198,7 +199,7 @@ pub(crate) fn judged<B: Node>(
     stock: Vec<B>,
     limits: (u64, u32),
     inputs: Vec<Input>,
-    journal: &[Event],
+    journal: &Journal,
 ) -> Result<Verdict, Fail>
     requires blank { All (λ b. B.state b ≡ blank_of (kind_of (B.state b))) stock.items }
     requires kinds { map (λ b. kind_of (B.state b)) stock.items ≡ stocked }

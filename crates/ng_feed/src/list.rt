@@ -75,6 +75,15 @@ fn queues_of(alloc: Global, captures: Vec<Capture>) -> Result<Vec<Queue>, NoMemo
     Ok(queues)
 }
 
+// A list with room for so many commands and packets.
+fn list_for(alloc: Global, commands: usize, packets: u128) -> Result<Vec<Input>, NoMemory>
+    ensures { IfOk result (λ inputs. inputs.items ≡ []) }
+{
+    let packets = usize::try_from(packets).map_err(|_| NoMemory)?;
+    let inputs = Vec::with_capacity(alloc, commands.saturating_add(packets))?;
+    Ok(inputs)
+}
+
 // Feeds the packets, each behind the seconds that go by until it comes, and in front of the commands of its place.
 fn feed_packets(
     inputs: &mut Vec<Input>,
@@ -126,8 +135,8 @@ pub fn inputs(alloc: Global, script: Script, captures: Vec<Capture>) -> Result<V
 {
     let mut queues = queues_of(alloc, captures)?;
     let packets = count(&queues);
+    let mut inputs = list_for(alloc, script.commands().len(), packets)?;
     let mut commands = Commands::of(alloc, script);
-    let mut inputs = Vec::new(alloc);
     commands.feed_turn(&mut inputs, packets, 0)?;
     commands.feed_turn(&mut inputs, packets, 1)?;
     feed_packets(&mut inputs, &mut commands, &mut queues, packets)?;

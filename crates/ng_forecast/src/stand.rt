@@ -6,7 +6,6 @@ ghost use Rattle.ng_feed.specs.Merge.{merged};
 ghost use Rattle.ng_machine.specs.Laws.{world_after};
 ghost use Rattle.ng_machine.specs.State.{kind_of};
 ghost use Rattle.ng_printable.specs.Scripts.{InputsAreFit};
-ghost use Rattle.ng_run.specs.Writes.{is_stop, is_stopped};
 ghost use Rattle.ng_run.specs.Stocked.{IsStocked};
 ghost use Rattle.ng_seats.specs.CoreStory.{story};
 ghost use Rattle.ng_story.specs.Story.{world_of};
@@ -15,7 +14,7 @@ ghost use Rattle.ngctl_script.specs.Held.{AreCommands};
 ghost use Rattle.ng_forecast.specs.Arrivals.{packets_among};
 ghost use Rattle.ng_forecast.specs.Steps.{IsRun, setting_of};
 
-use ng_base::{Event, Name, NoMemory};
+use ng_base::{Name, NoMemory};
 use ng_feed::{Arrival, inputs};
 use ng_machine::{BoxedCommand, Input};
 use ng_node::Node;
@@ -88,22 +87,6 @@ pub(crate) fn run_commands<B: Node>(
     plainly_is_whole();
     let _journal = core.journal();
     Ok(core)
-}
-
-fn is_stop(event: &Event) -> bool
-    ensures { result ≡ is_stop event.now }
-{
-    match event {
-        Event::Stop => true,
-        _ => false,
-    }
-}
-
-/// Whether a run stopped at its limit.
-pub(crate) fn is_stopped(journal: &[Event]) -> bool
-    ensures { result ≡ is_stopped journal.now }
-{
-    journal.iter().any(|event| is_stop(event))
 }
 
 // An input is added where it is a packet.

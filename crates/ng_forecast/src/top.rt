@@ -20,13 +20,14 @@ ghost use Rattle.ng_forecast.specs.Steps.{flights_of};
 
 use crate::bag::gather;
 use crate::read::{ReadIn, read_in};
-use crate::stand::{arrivals_of, is_stopped, run_commands};
+use crate::stand::{arrivals_of, run_commands};
 use crate::text::bag_text;
 use crate::{Forecast, ForecastFault, Spread};
 use ng_base::Sequence;
 use ng_node::Node;
 use ng_outside::{Files, Sink, put_all};
 use ng_pcap::Capture;
+use ng_run::is_stopped;
 use ng_seats::Core;
 use ng_words::{ForecastWords, read_forecast_words};
 use std::alloc::Global;

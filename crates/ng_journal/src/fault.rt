@@ -2,7 +2,7 @@
 ghost use Rattle.std.specs.Prelude.{◌≡◌};
 ghost use Rattle.ng_journal.specs.declared.fault.JournalFault.TheVariants.{NoMemory as out_of_memory};
 
-use std::alloc::{AllocError, AllocFailed};
+use ng_base::NoMemory;
 use thiserror::Error;
 
 /// Why bytes are no journal.
@@ -16,18 +16,10 @@ pub enum JournalFault {
     NoMemory,
 }
 
-impl From<AllocError> for JournalFault {
+impl From<NoMemory> for JournalFault {
     ghost from_gives = { λ _ fault. fault ≡ out_of_memory };
 
-    fn from(_: AllocError) -> Self {
-        JournalFault::NoMemory
-    }
-}
-
-impl<T: Drop> From<AllocFailed<T>> for JournalFault {
-    ghost from_gives = { λ _ fault. fault ≡ out_of_memory };
-
-    fn from(_: AllocFailed<T>) -> Self {
+    fn from(_: NoMemory) -> Self {
         JournalFault::NoMemory
     }
 }

@@ -6,6 +6,7 @@ use crate::JournalFault;
 use crate::split::split_first;
 use ng_base::{Event, ItemId};
 use ng_decimal::read_decimal;
+use ng_events::Journal;
 use std::alloc::Global;
 
 const LINE_FEED: u8 = b'\n';
@@ -82,10 +83,10 @@ fn read_event(line: &[u8]) -> Option<Event>
 }
 
 /// The events of the lines behind the head.
-fn read_events(alloc: Global, text: &[u8]) -> Result<Vec<Event>, JournalFault>
+fn read_events(alloc: Global, text: &[u8]) -> Result<Journal, JournalFault>
     ensures { MatchResult result (λ events. events_from 2 (lines_of text.now) ≡ Ok events.items) (IsTold (events_from 2 (lines_of text.now))) }
 {
-    let mut events = Vec::new(alloc);
+    let mut events = Journal::new(alloc);
     let mut rest = text;
     let mut line = 2;
     while let Some((front, behind)) = split_first(rest, LINE_FEED) {
@@ -109,7 +110,7 @@ fn read_events(alloc: Global, text: &[u8]) -> Result<Vec<Event>, JournalFault>
 ///
 /// # Errors
 /// `BadLine` with the number, from 1, of the first line that isn't so, and `NoMemory` where memory ran out.
-pub fn read_journal(alloc: Global, bytes: &[u8]) -> Result<Vec<Event>, JournalFault>
+pub fn read_journal(alloc: Global, bytes: &[u8]) -> Result<Journal, JournalFault>
     ensures { MatchResult result (λ events. journal_of bytes.now ≡ Ok events.items) (IsTold (journal_of bytes.now)) }
 {
     match split_first(bytes, LINE_FEED) {

@@ -5,6 +5,7 @@ ghost use Rattle.std.specs.List.{flat_map};
 ghost use Rattle.ng_journal.specs.Journal.{event_line, event_words, journal_text};
 
 use ng_base::{Event, NoMemory};
+use ng_events::Journal;
 use std::alloc::Global;
 
 fn put_number(alloc: Global, out: &mut Vec<u8>, number: u64) -> Result<(), NoMemory>
@@ -15,8 +16,8 @@ fn put_number(alloc: Global, out: &mut Vec<u8>, number: u64) -> Result<(), NoMem
     Ok(())
 }
 
-fn put_words(alloc: Global, out: &mut Vec<u8>, event: &Event) -> Result<(), NoMemory>
-    ensures { OnOk result (out.new.items ≡ out.old.items ++ event_words event.now) }
+fn put_words(alloc: Global, out: &mut Vec<u8>, event: Event) -> Result<(), NoMemory>
+    ensures { OnOk result (out.new.items ≡ out.old.items ++ event_words event) }
 {
     match event {
         Event::Feed => out.extend_from_slice(b"F")?,
@@ -24,7 +25,7 @@ fn put_words(alloc: Global, out: &mut Vec<u8>, event: &Event) -> Result<(), NoMe
             out.extend_from_slice(b"T ")?;
             put_number(alloc, out, id.0)?;
             out.push(b' ')?;
-            put_number(alloc, out, u64::from(*seat))?;
+            put_number(alloc, out, u64::from(seat))?;
         }
         Event::Back { id } => {
             out.extend_from_slice(b"B ")?;
@@ -39,10 +40,10 @@ fn put_words(alloc: Global, out: &mut Vec<u8>, event: &Event) -> Result<(), NoMe
     Ok(())
 }
 
-fn put_lines(alloc: Global, out: &mut Vec<u8>, journal: &[Event]) -> Result<(), NoMemory>
-    ensures { OnOk result (out.new.items ≡ out.old.items ++ flat_map event_line journal.now) }
+fn put_lines(alloc: Global, out: &mut Vec<u8>, journal: &Journal) -> Result<(), NoMemory>
+    ensures { OnOk result (out.new.items ≡ out.old.items ++ flat_map event_line journal.now.items) }
 {
-    for event in journal {
+    for event in journal.events() {
         put_words(alloc, out, event)?;
         out.push(b'\n')?;
     }
@@ -55,8 +56,8 @@ fn put_lines(alloc: Global, out: &mut Vec<u8>, journal: &[Event]) -> Result<(), 
 ///
 /// # Errors
 /// `NoMemory` where memory ran out, and for nothing else.
-pub fn put_journal(alloc: Global, out: &mut Vec<u8>, journal: &[Event]) -> Result<(), NoMemory>
-    ensures { OnOk result (out.new.items ≡ out.old.items ++ journal_text journal.now) }
+pub fn put_journal(alloc: Global, out: &mut Vec<u8>, journal: &Journal) -> Result<(), NoMemory>
+    ensures { OnOk result (out.new.items ≡ out.old.items ++ journal_text journal.now.items) }
 {
     out.extend_from_slice(b"ngjournal 1\n")?;
     put_lines(alloc, out, journal)?;

@@ -1,9 +1,7 @@
 -- How a core that has followed a journal ends.
-use Rattle.std.proofs.Common.{◌≡◌, ◌⊎◌, inl, inr, ℕ, ◌+◌, ◌<◌, ◌&&◌, ◌||◌, Bool, true, false, nat_lt, List, [], ◌∷◌, ◌++◌, length, is_some, refl, sym, ap, ◌∙◌, ⊎_elim, subst, length-append, arith, true≢false}
+use Rattle.std.proofs.Common.{◌≡◌, ◌⊎◌, inl, inr, ℕ, ◌+◌, ◌<◌, ◌||◌, Bool, true, false, nat_lt, List, [], ◌∷◌, ◌++◌, length, refl, sym, ap, ◌∙◌, subst, length-append, arith, true≢false}
 use Rattle.std.proofs.lemmas.Bool.{and_parts, le-ltb, lt-ltb, ltb-true}
-use Rattle.std.specs.declared.option.Option.{Option}
-use Rattle.std.specs.declared.option.Option.TheVariants.{None, Some}
-use Rattle.ng_base.specs.declared.event.Event.{Event}
+use Rattle.std.specs.declared.option.Option.TheVariants.{Some}
 use Rattle.ng_base.specs.declared.event.Event.TheVariants.{Stop}
 use Rattle.ng_machine.specs.declared.input.Input.{Input}
 use Rattle.ng_machine.specs.declared.item.Item.{Item}
@@ -11,11 +9,10 @@ use Rattle.ng_machine.specs.Laws.{start}
 use Rattle.ng_machine.specs.Orderly.{IsQuiet, IsWhole}
 use Rattle.ng_machine.specs.Run.{RunState}
 use Rattle.ng_machine.specs.Words.{first_refusal}
-use Rattle.ng_machine.specs.World.{World}
 use Rattle.ng_seats.proofs.OpenStories.{open_story}
 use Rattle.ng_story.specs.Closing.{close_refusal, closed_with, is_spent, refusal_below, stopped_if, stops}
 use Rattle.ng_story.specs.SoundStory.{IsSoundStory}
-use Rattle.ng_story.specs.Story.{Story, has_ended, run_state_of, world_of}
+use Rattle.ng_story.specs.Story.{Story, has_ended, world_of}
 use Rattle.ng_story.specs.declared.unclosed.Unclosed.{Unclosed}
 use Rattle.ng_story.specs.declared.unclosed.Unclosed.TheVariants.{Pending, Unfed}
 use Rattle.ng_judge.specs.Following.{Goes, HasRest, StandsAfter, all_with}

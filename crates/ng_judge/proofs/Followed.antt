@@ -7,16 +7,16 @@ use Rattle.ng_base.specs.declared.event.Event.{Event}
 use Rattle.ng_base.specs.declared.event.Event.TheVariants.{Feed, Stop}
 use Rattle.ng_base.specs.declared.ids.ItemId.{ItemId}
 use Rattle.ng_machine.specs.declared.input.Input.{Input}
-use Rattle.ng_machine.specs.Laws.{IsJournal, Setting, run_state_after, start}
+use Rattle.ng_machine.specs.Laws.{Setting, start}
 use Rattle.ng_machine.specs.Run.{RunState, after, beginning}
 use Rattle.ng_machine.proofs.Ordering.{after-append}
 use Rattle.ng_pool.specs.Feeding.{IsFed}
 use Rattle.ng_seats.proofs.OpenStories.{open_story}
 use Rattle.ng_story.specs.SoundStory.{IsSoundStory}
-use Rattle.ng_story.specs.Story.{MayFollow, Story, begun, follow_if, has_ended, run_state_of, with_event, with_input, with_more}
+use Rattle.ng_story.specs.Story.{MayFollow, Story, begun, follow_if, has_ended, run_state_of, with_event, with_input}
 use Rattle.ng_story.proofs.MoreInputs.{same_run}
 use Rattle.ng_story.proofs.SoundStories.{at_more, so_far}
-use Rattle.ng_judge.specs.Following.{Follows, Goes, HasFollowed, StandsAfter, all_with}
+use Rattle.ng_judge.specs.Following.{Follows, Goes, HasFollowed, all_with}
 
 -- while nothing stopped, any inputs may follow
 may_follow : (s : Story) (more : List Input) → (run_state_of s).stopped ≡ false → MayFollow s more

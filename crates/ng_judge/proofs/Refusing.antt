@@ -1,5 +1,5 @@
 -- What a core that has followed a journal so far refuses isn't allowed there.
-use Rattle.std.proofs.Common.{◌≡◌, ◌≢◌, ◌⊎◌, inl, inr, ℕ, zero, suc, ◌+◌, ◌<◌, ◌≤◌, ◌==◌, ◌||◌, Bool, true, false, List, [], ◌∷◌, ◌++◌, length, slice_get, is_none, refl, sym, ap, ◌∙◌, ⊎_elim, subst, length-append, arith, true≢false}
+use Rattle.std.proofs.Common.{◌≡◌, ◌≢◌, inl, inr, ℕ, zero, suc, ◌<◌, ◌≤◌, true, false, List, [], ◌∷◌, ◌++◌, length, slice_get, is_none, refl, sym, ap, ◌∙◌, ⊎_elim, subst, length-append, arith, true≢false}
 use Rattle.std.specs.List.{list_any}
 use Rattle.std.proofs.lemmas.Bool.{eq-eqb, or_parts}
 use Rattle.std.proofs.lemmas.Option.{slice_get_past}
@@ -9,10 +9,9 @@ use Rattle.ng_base.specs.declared.event.Event.{Event}
 use Rattle.ng_base.specs.declared.event.Event.TheVariants.{Feed, Take, Back, Apply, Stop}
 use Rattle.ng_base.specs.declared.ids.ItemId.{ItemId}
 use Rattle.ng_machine.specs.declared.input.Input.{Input}
-use Rattle.ng_machine.specs.declared.item.Item.{Item}
 use Rattle.ng_machine.specs.Desk.{Job, Idle, Within, Reads, Writes}
 use Rattle.ng_machine.specs.Laws.{IsJournal, start, taken_by}
-use Rattle.ng_machine.specs.Orderly.{Allowed, AllowedEvent, IsTaken, MayFeedNext, MayTakeNow}
+use Rattle.ng_machine.specs.Orderly.{Allowed, IsTaken, MayFeedNext, MayTakeNow}
 use Rattle.ng_machine.specs.Refusal.{feed_refusal}
 use Rattle.ng_machine.specs.Run.{RunState, Taken, beginning}
 use Rattle.ng_machine.specs.State.{State}

@@ -1,5 +1,5 @@
 -- One event, by what the calls say.
-use Rattle.std.proofs.Common.{◌≡◌, ◌≢◌, inl, inr, ℕ, ◌<◌, Bool, true, false, not, ◌==◌, List, [], ◌∷◌, get_or, length, is_some, refl, sym, ap, ◌∙◌, ⊎_elim, subst, true≢false}
+use Rattle.std.proofs.Common.{◌≡◌, ◌≢◌, ℕ, ◌<◌, Bool, true, false, not, ◌==◌, List, [], ◌∷◌, get_or, length, is_some, refl, sym, ap, ◌∙◌, ⊎_elim, subst, true≢false}
 use Rattle.std.proofs.lemmas.Bool.{cases_eq, eq-eqb, eqb-true}
 use Rattle.std.proofs.lemmas.List.{get_or_default}
 use Rattle.std.specs.Prelude.{IfNone, IfOk, IfSome, slice_set, unwrap_or}

@@ -1,15 +1,14 @@
 -- A journal gets one verdict.
-use Rattle.std.proofs.Common.{◌≡◌, ◌⊎◌, inl, inr, ℕ, ◌+◌, ◌<◌, List, [], ◌∷◌, ◌++◌, length, refl, sym, ap, ⊎_elim, subst, arith, ◌∙◌}
+use Rattle.std.proofs.Common.{◌≡◌, ◌⊎◌, inl, inr, ℕ, ◌+◌, ◌<◌, List, [], ◌∷◌, ◌++◌, length, refl, sym, ap, ⊎_elim, subst, ◌∙◌}
 use Rattle.std.proofs.lemmas.Bool.{cases_order}
 use Rattle.std.proofs.lemmas.List.{append_assoc}
 use Rattle.ng_base.specs.declared.event.Event.{Event}
 use Rattle.ng_machine.specs.Laws.{Setting, IsJournal, start}
 use Rattle.ng_machine.specs.Run.{beginning}
 use Rattle.ng_machine.proofs.Ordering.{orderly_front}
-use Rattle.ng_judge.specs.declared.verdict.Verdict.{Verdict}
 use Rattle.ng_judge.specs.declared.verdict.Verdict.TheVariants.{Yes, No}
 use Rattle.ng_judge.specs.Laws.{OneVerdict}
-use Rattle.ng_judge.specs.Verdict.{IsCutShort, IsFirstRefused, IsVerdict}
+use Rattle.ng_judge.specs.Verdict.{IsFirstRefused, IsVerdict}
 use Rattle.ng_judge.proofs.Parts.{earlier}
 
 module _ (s : Setting) (journal : List Event) where

@@ -13,7 +13,8 @@ ghost use Rattle.ng_story.specs.Story.{AreFitFor, begun};
 use crate::Verdict;
 use crate::closing::close;
 use crate::following::{follow, know_story};
-use ng_base::{Event, NoMemory};
+use ng_base::NoMemory;
+use ng_events::Journal;
 use ng_machine::Input;
 use ng_node::Node;
 use ng_pool::Unfed;
@@ -39,21 +40,21 @@ fn follow_all<B: Node>(
     core: &mut Core<B>,
     held: &mut [Option<Work<B>>],
     unfed: &mut Unfed,
-    journal: &[Event],
+    journal: &Journal,
 ) -> Result<Option<u64>, NoMemory>
     requires holds { HoldsWhileOpen B.state held.old (story core.old) }
     requires seats { length held.old ≡ core.old.seats }
     requires few_seats { length held.old < 2 ^ 32 }
-    requires few { length journal.now < 2 ^ 63 }
+    requires few { length journal.now.items < 2 ^ 63 }
     requires fits { AreFitFor (story core.old) unfed.old }
     requires begun { HasFollowed (all_with (story core.old) unfed.old) [] (story core.old) unfed.old }
-    ensures refused { IfOk result (λ o. IfSome o (λ at. IsFirstRefused (all_with (story core.old) unfed.old) journal.now at)) }
-    ensures followed { IfOk result (λ o. IfNone o (HasFollowed (all_with (story core.old) unfed.old) journal.now (story core.new) unfed.new)) }
+    ensures refused { IfOk result (λ o. IfSome o (λ at. IsFirstRefused (all_with (story core.old) unfed.old) journal.now.items at)) }
+    ensures followed { IfOk result (λ o. IfNone o (HasFollowed (all_with (story core.old) unfed.old) journal.now.items (story core.new) unfed.new)) }
 {
     let mut number = 0;
-    for event in journal {
+    for event in journal.events() {
         number += 1;
-        let allowed = follow(alloc, core, held, unfed, *event)?;
+        let allowed = follow(alloc, core, held, unfed, event)?;
         if !allowed {
             return Ok(Some(number));
         }
@@ -78,17 +79,17 @@ fn verdict_of<B: Node>(
     core: &mut Core<B>,
     held: &mut [Option<Work<B>>],
     unfed: &mut Unfed,
-    journal: &[Event],
+    journal: &Journal,
 ) -> Result<Verdict, NoMemory>
     requires holds { HoldsWhileOpen B.state held.old (story core.old) }
     requires seats { length held.old ≡ core.old.seats }
     requires few_seats { length held.old < 2 ^ 32 }
     requires fits { AreFitFor (story core.old) unfed.old }
     requires begun { HasFollowed (all_with (story core.old) unfed.old) [] (story core.old) unfed.old }
-    requires few { length journal.now < 2 ^ 63 }
-    ensures verdict { IfOk result (λ verdict. IsVerdict (all_with (story core.old) unfed.old) journal.now verdict) }
-    ensures stands { IfOk result (λ verdict. verdict ≡ Yes → StandsAfter (all_with (story core.old) unfed.old) journal.now (story core.new) unfed.new) }
+    ensures verdict { IfOk result (λ verdict. IsVerdict (all_with (story core.old) unfed.old) journal.now.items verdict) }
+    ensures stands { IfOk result (λ verdict. verdict ≡ Yes → StandsAfter (all_with (story core.old) unfed.old) journal.now.items (story core.new) unfed.new) }
 {
+    let count = journal.len() as u64;
     let refused = follow_all(alloc, core, held, unfed, journal)?;
     if let Some(at) = refused {
         return Ok(Verdict::No { at });
@@ -96,9 +97,7 @@ fn verdict_of<B: Node>(
     if is_whole(core, unfed) {
         return Ok(Verdict::Yes);
     }
-    Ok(Verdict::No {
-        at: journal.len() as u64 + 1,
-    })
+    Ok(Verdict::No { at: count + 1 })
 }
 
 /// Judges a journal by a core that was just made and all inputs of its run: `Yes` exactly where each event is allowed where it
@@ -115,13 +114,13 @@ pub fn judge<B: Node>(
     core: &mut Core<B>,
     seats: u32,
     inputs: Vec<Input>,
-    journal: &[Event],
+    journal: &Journal,
 ) -> Result<Verdict, NoMemory>
     requires begun { story core.old ≡ begun (setting_of core.old) }
     requires seats { seats ≡ core.old.seats }
     requires fits { AreFitFor (story core.old) inputs.items }
-    ensures verdict { IfOk result (λ verdict. IsVerdict (all_with (story core.old) inputs.items) journal.now verdict) }
-    ensures stands { IfOk result (λ verdict. verdict ≡ Yes → (left : List TheInput) × StandsAfter (all_with (story core.old) inputs.items) journal.now (story core.new) left) }
+    ensures verdict { IfOk result (λ verdict. IsVerdict (all_with (story core.old) inputs.items) journal.now.items verdict) }
+    ensures stands { IfOk result (λ verdict. verdict ≡ Yes → (left : List TheInput) × StandsAfter (all_with (story core.old) inputs.items) journal.now.items (story core.new) left) }
 {
     let mut held = empty_hands(alloc, seats)?;
     let mut unfed = Unfed::new(inputs);

@@ -9,7 +9,8 @@ ghost use Rattle.ng_run.specs.Stocked.{IsStocked};
 ghost use Rattle.ng_seats.specs.CoreStory.{story};
 ghost use Rattle.ng_story.specs.Story.{world_of};
 
-use ng_base::{Event, Name, NoMemory};
+use ng_base::{Name, NoMemory};
+use ng_events::Journal;
 use ng_judge::{Verdict, judge};
 use ng_machine::Input;
 use ng_node::Node;
@@ -38,13 +39,13 @@ pub(crate) fn judge_run<B: Node>(
     words: &ReplayWords,
     stock: Vec<B>,
     inputs: Vec<Input>,
-    journal: &[Event],
+    journal: &Journal,
 ) -> Result<(Verdict, Core<B>), NoMemory>
     requires stocked { IsStocked B.state stock.items }
     requires may { MayRun (setting_of (kinds_of B.state stock.items) (run_of words.now) inputs.items) }
     requires workers { words.now.workers ≤ 16 }
-    ensures verdict { IfOk result (λ judged. IsVerdict (setting_of (kinds_of B.state stock.items) (run_of words.now) inputs.items) journal.now judged.0) }
-    ensures world { IfOk result (λ judged. judged.0 ≡ Yes → world_of (story judged.1) ≡ world_after (setting_of (kinds_of B.state stock.items) (run_of words.now) inputs.items) journal.now) }
+    ensures verdict { IfOk result (λ judged. IsVerdict (setting_of (kinds_of B.state stock.items) (run_of words.now) inputs.items) journal.now.items judged.0) }
+    ensures world { IfOk result (λ judged. judged.0 ≡ Yes → world_of (story judged.1) ≡ world_after (setting_of (kinds_of B.state stock.items) (run_of words.now) inputs.items) journal.now.items) }
     ensures ports { IfOk result (λ judged. judged.0 ≡ Yes → length judged.1.ports ≡ length words.now.ports) }
 {
     let seats = words.workers + 1;

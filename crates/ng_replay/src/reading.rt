@@ -9,7 +9,7 @@ ghost use Rattle.ng_replay.specs.Parts.{AllRead, AllStop, Stops};
 
 use crate::fault::replay_fault;
 use crate::{Given, ReplayFault};
-use ng_base::Event;
+use ng_events::Journal;
 use ng_journal::{JournalFault, read_journal};
 use ng_outside::{Files, ReadStop, read_whole};
 use ng_run::{ReadIn, read_files};
@@ -23,7 +23,7 @@ const MOST_JOURNAL: u64 = 536_870_912;
 #[derive(Drop)]
 pub(crate) struct ReadAll {
     pub given: ReadIn,
-    pub journal: Vec<Event>,
+    pub journal: Journal,
 }
 
 // The journal of a file.
@@ -31,7 +31,7 @@ fn read_journal_file<F: Files>(
     alloc: Global,
     name: &str,
     files: &mut F,
-) -> Result<Vec<Event>, ReplayFault>
+) -> Result<Journal, ReplayFault>
     ensures ok { IfOk result (λ events. (bytes : List ℕ) × IsRead (F.contents files.old name.now) bytes
         × (first_fault (F.contents files.old) (journal_steps name.now bytes) ≡ None) × (journal_of bytes ≡ Ok events.items)) }
     ensures err { IfErr result (λ fault. (bytes : List ℕ) × IsRead (F.contents files.old name.now) bytes

@@ -8,7 +8,8 @@ ghost use Rattle.ngctl_print.specs.Prints.{Prints};
 ghost use Rattle.ngctl_text.specs.Text.{reports, world_text};
 ghost use Rattle.ngctl_text.specs.Told.{ArePrintable};
 
-use ng_base::{Event, NoMemory};
+use ng_base::NoMemory;
+use ng_events::Journal;
 use ng_machine::Command;
 use ng_node::Node;
 use ng_outside::Sink;
@@ -49,7 +50,7 @@ fn reports<B: Node>(
 pub(crate) fn print_core<B: Node, O: Sink>(
     alloc: Global,
     core: &Core<B>,
-    journal: &[Event],
+    journal: &Journal,
     commands: &[Command],
     ports: &[PortWord],
     cuts: &[Option<u64>],
@@ -61,7 +62,7 @@ pub(crate) fn print_core<B: Node, O: Sink>(
     requires few { length ports.now ≤ 64 }
     requires there { length ports.now ≡ length core.now.ports }
     ensures { Prints (O.contents out.old) (O.contents out.new) (O.faults out.old) (O.faults out.new) result
-        (world_text commands.now (shown_by ports.now cuts.now) of (world_of (story core.now)) (list_any is_stop journal.now)) }
+        (world_text commands.now (shown_by ports.now cuts.now) of (world_of (story core.now)) (list_any is_stop journal.now.items)) }
 {
     let Ok(lines) = reports(alloc, core, ports, cuts) else {
         return Err(PrintStop::NoMemory);

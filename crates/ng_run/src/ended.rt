@@ -1,5 +1,5 @@
 // How a call ends.
-use ng_base::Event;
+use ng_events::Journal;
 use ng_pcap::CaptureFault;
 use ngctl_script::ScriptFault;
 use thiserror::Error;
@@ -52,7 +52,7 @@ pub struct Ended {
     /// 0, 1 where an errno was told, 2 where the run stopped at its limit, or that of the fault.
     pub status: u8,
     /// The journal of the run. It has no events where the call did not come to the run.
-    pub journal: Vec<Event>,
+    pub journal: Journal,
     /// The fault, where there is one.
     pub fault: Option<Fault>,
 }

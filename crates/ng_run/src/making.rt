@@ -22,12 +22,14 @@ use std::alloc::Global;
 use std::sync::Wait;
 use std::thread::Threads;
 
-// A core of these blank nodes and so many seats, with the name, the ports and the limit that the words say.
+// A core of these blank nodes and so many seats, with the name, the ports and the limit that the words say, and with room for
+// the inputs that it is to get.
 fn make_core<B: Node>(
     alloc: Global,
     words: &Words,
     stock: Vec<B>,
     seats: u32,
+    expected: usize,
 ) -> Result<Core<B>, NoMemory>
     requires stocked { IsStocked B.state stock.items }
     requires may { (inputs : List TheInput) × MayRun (setting_of (map (λ b. kind_of (B.state b)) stock.items) words.now inputs) }
@@ -35,7 +37,8 @@ fn make_core<B: Node>(
     ensures made { IfOk result (λ core. core ≡ begun_by (map (λ b. kind_of (B.state b)) stock.items) words.now seats) }
 {
     let ports = port_names(alloc, &words.source)?;
-    let core = Core::new(alloc, words.own_name, ports, stock, words.budget, seats)?;
+    let mut core = Core::new(alloc, words.own_name, ports, stock, words.budget, seats)?;
+    core.expect(expected);
     Ok(core)
 }
 
@@ -54,7 +57,7 @@ fn run_plainly<B: Node>(
     ensures ports { IfOk result (λ core. length (world_of (story core)).ports ≡ length (ports_from words.now.source)) }
     ensures world { IfOk result (λ core. world_of (story core) ≡ world_after (setting_of (map (λ b. kind_of (B.state b)) stock.items) words.now inputs.items) core.journal) }
 {
-    let mut core = make_core(alloc, words, stock, seats)?;
+    let mut core = make_core(alloc, words, stock, seats, inputs.len())?;
     plain(alloc, &mut core, inputs)?;
     plainly_is_plain();
     plainly_is_whole();
@@ -80,7 +83,7 @@ fn run_beside<R: Threads + Wait + Sync, B: Node, G: Gate + Sync>(
     ensures ports { IfOk result (λ core. length (world_of (story core)).ports ≡ length (ports_from words.now.source)) }
     ensures world { IfOk result (λ core. world_of (story core) ≡ world_after (setting_of (map (λ b. kind_of (B.state b)) stock.items) words.now inputs.items) core.journal) }
 {
-    let begun = make_core(alloc, words, stock, seats)?;
+    let begun = make_core(alloc, words, stock, seats, inputs.len())?;
     let core = run_workers(rt, alloc, begun, seats, inputs, gate)?;
     ran_is_whole();
     let _journal = core.journal();

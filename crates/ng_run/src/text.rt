@@ -11,6 +11,7 @@ ghost use Rattle.ngctl_text.specs.Told.{ArePrintable};
 ghost use Rattle.ng_run.specs.Writes.{is_stop, is_error, shown_by};
 
 use ng_base::{Event, NoMemory};
+use ng_events::Journal;
 use ng_machine::{Command, Told};
 use ng_node::Node;
 use ng_outside::Sink;
@@ -20,8 +21,8 @@ use ngctl_print::PrintStop;
 use ngctl_text::{PortReport, Summary, print_text};
 use std::alloc::Global;
 
-fn is_stop(event: &Event) -> bool
-    ensures { result ≡ is_stop event.now }
+fn is_stop(event: Event) -> bool
+    ensures { result ≡ is_stop event }
 {
     match event {
         Event::Stop => true,
@@ -30,10 +31,15 @@ fn is_stop(event: &Event) -> bool
 }
 
 /// Whether the run of a journal stopped at its limit of applied items: the journal has a Stop.
-pub fn is_stopped(journal: &[Event]) -> bool
-    ensures { result ≡ list_any is_stop journal.now }
+pub fn is_stopped(journal: &Journal) -> bool
+    ensures { result ≡ list_any is_stop journal.now.items }
 {
-    journal.iter().any(|event| is_stop(event))
+    for event in journal.events() {
+        if is_stop(event) {
+            return true;
+        }
+    }
+    false
 }
 
 fn is_error(told: &Told) -> bool

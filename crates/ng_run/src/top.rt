@@ -25,6 +25,7 @@ use crate::text::{has_error, is_stopped};
 use crate::write::write_all;
 use crate::{Ended, Fault};
 use ng_base::NoMemory;
+use ng_events::Journal;
 use ng_feed::inputs;
 use ng_node::Node;
 use ng_outside::{Files, Gate, Sink};
@@ -59,7 +60,7 @@ fn refused(alloc: Global, fault: Fault) -> Ended
 {
     Ended {
         status: fault_status(fault),
-        journal: Vec::new(alloc),
+        journal: Journal::new(alloc),
         fault: Some(fault),
     }
 }

@@ -16,7 +16,8 @@ ghost use Rattle.ng_run.specs.Parts.{of_files, storing, outside, counting};
 
 use crate::text::print_run;
 use crate::{Fault, Which};
-use ng_base::{Event, NoMemory};
+use ng_base::NoMemory;
+use ng_events::Journal;
 use ng_journal::put_journal;
 use ng_machine::Command;
 use ng_node::Node;
@@ -67,8 +68,8 @@ fn write_outs<B: Node, F: Files>(
 }
 
 // A journal as the bytes of a file.
-fn journal_file(alloc: Global, journal: &[Event]) -> Result<Vec<u8>, NoMemory>
-    ensures { IfOk result (λ bytes. bytes.items ≡ journal_text journal.now) }
+fn journal_file(alloc: Global, journal: &Journal) -> Result<Vec<u8>, NoMemory>
+    ensures { IfOk result (λ bytes. bytes.items ≡ journal_text journal.now.items) }
 {
     let mut bytes = Vec::new(alloc);
     put_journal(alloc, &mut bytes, journal)?;
@@ -79,12 +80,12 @@ fn journal_file(alloc: Global, journal: &[Event]) -> Result<Vec<u8>, NoMemory>
 fn write_journal<F: Files>(
     alloc: Global,
     name: &Option<FileName>,
-    journal: &[Event],
+    journal: &Journal,
     files: &mut F,
 ) -> Result<(), Fault>
-    ensures ok { OnOk result ((sink : Option (List ℕ)) → WritesAll (journal_writes name.now journal.now) (storing sink (F.contents files.old)) (storing sink (F.contents files.new))) }
+    ensures ok { OnOk result ((sink : Option (List ℕ)) → WritesAll (journal_writes name.now journal.now.items) (storing sink (F.contents files.old)) (storing sink (F.contents files.new))) }
     ensures err { IfErr result (λ fault. (sink : Option (List ℕ)) → StopsAt (StopsFor no_memory (of_files (F.contents files.old) (F.contents files.new) (F.faults files.old) (F.faults files.new)) fault)
-        (journal_writes name.now journal.now) (storing sink (F.contents files.old)) (storing sink (F.contents files.new))) }
+        (journal_writes name.now journal.now.items) (storing sink (F.contents files.old)) (storing sink (F.contents files.new))) }
     ensures counts { (other : List ℕ) → F.faults files.old other ≤ F.faults files.new other }
 {
     let Some(name) = name else {

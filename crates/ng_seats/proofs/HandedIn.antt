@@ -1,12 +1,10 @@
 -- What a seat hands in is what comes of its item, which is taken at its node.
-use Rattle.std.proofs.Common.{◌≡◌, ◌≢◌, ◌∙◌, ℕ, List, Bool, true, false, not, refl, sym, ap, subst}
+use Rattle.std.proofs.Common.{◌≡◌, ◌≢◌, ◌∙◌, ℕ, Bool, true, false, not, refl, sym, ap, subst}
 use Rattle.std.proofs.lemmas.Bool.{eqb-false, not-true}
-use Rattle.std.specs.declared.option.Option.{Option}
 use Rattle.std.specs.declared.option.Option.TheVariants.{None, Some}
-use Rattle.ng_base.specs.declared.ids.NodeId.{NodeId}
 use Rattle.ng_machine.specs.declared.item.Item.{Item}
 use Rattle.ng_machine.specs.Body.{has_id}
-use Rattle.ng_machine.specs.Desk.{Job, Within, Reads, Writes, job_at}
+use Rattle.ng_machine.specs.Desk.{Job, job_at}
 use Rattle.ng_machine.specs.Laws.{taken_by}
 use Rattle.ng_machine.specs.LowRun.{IsModest}
 use Rattle.ng_machine.specs.Orderly.{IsTaken}
@@ -22,7 +20,7 @@ use Rattle.ng_story.specs.DeskLaws.{IsOrderlySoFar}
 use Rattle.ng_story.specs.Desks.{IsAtWork, IsJobNow, story_job}
 use Rattle.ng_story.specs.SoundStory.{IsSoundStory}
 use Rattle.ng_story.specs.Story.{Story, run_state_of, world_of}
-use Rattle.ng_story.specs.Work.{Handed, IsDone}
+use Rattle.ng_story.specs.Work.{IsDone}
 use Rattle.ng_story.proofs.AtWork.{jobs_stand}
 use Rattle.ng_story.proofs.SoundStories.{so_far}
 use Rattle.ng_tie.specs.Tie.{is_out, untaken}

@@ -1,7 +1,6 @@
 -- A sound story's journal keeps the laws.
-use Rattle.std.proofs.Common.{◌≡◌, ◌≢◌, List, ◌∷◌, ◌++◌, sym, subst}
+use Rattle.std.proofs.Common.{◌≢◌, List, sym, subst}
 use Rattle.ng_base.specs.declared.event.Event.{Event}
-use Rattle.ng_base.specs.declared.event.Event.TheVariants.{Apply}
 use Rattle.ng_machine.specs.declared.item.Item.{Item}
 use Rattle.ng_machine.specs.Words.{Has}
 use Rattle.ng_machine.specs.Laws.{Setting, IsGone, IsJournal, start, world_after}

@@ -1,6 +1,6 @@
 -- What a core's type keeps: a sound story over inputs that are few enough, a seat at least, low numbers, fields that stand for its
 -- run, and a journal with room for the end of all that is taken and for a Stop.
-use Rattle.std.specs.Prelude.{◌≡◌, ◌+◌, ◌<◌, ◌≤◌, vec_len, vec_capacity, None}
+use Rattle.std.specs.Prelude.{◌≡◌, ◌+◌, ◌<◌, ◌≤◌, None}
 use Rattle.ng_machine.specs.LowRun.{IsLow, IsModest}
 use Rattle.ng_story.specs.SoundStory.{IsSoundStory}
 use Rattle.ng_story.specs.Story.{run_state_of, world_of}
@@ -27,4 +27,4 @@ pub record IsKept {B : Type 0} (c : Inside B) : Type 0 where
   pub low : IsLow (world_of (story (story_in c)))
   pub some : 0 < c.seats
   pub stands : Stands c.state (run_state_of (story (story_in c)))
-  pub room : c.closed ≡ None → vec_len c.journal + (c.state.pending.out + 1) ≤ vec_capacity c.journal
+  pub room : c.closed ≡ None → c.state.pending.out + 1 ≤ c.journal.room

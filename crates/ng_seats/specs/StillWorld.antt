@@ -4,7 +4,7 @@ use Rattle.std.specs.Prelude.{ℕ, nat_lt, if◌then◌else◌, List, length, Op
 use Rattle.ng_base.specs.declared.ids.NodeId.{NodeId}
 use Rattle.ng_machine.specs.declared.plan.Plan.{Plan}
 use Rattle.ng_machine.specs.State.{way_of}
-use Rattle.ng_machine.specs.World.{World, NodeRecord, node_in, state_of, port_node}
+use Rattle.ng_machine.specs.World.{World, NodeRecord, state_of, port_node}
 
 pub record StillWorld : Type 0 where
   pub nodes : List (Option NodeRecord)

@@ -1,5 +1,5 @@
 // How a core ends.
-ghost use Rattle.std.specs.Prelude.{◌≡◌, ℕ, ◌+◌, ◌<◌, ◌≤◌, true, false, slice_set, vec_len, vec_capacity, Some, None, OnOk, OnErr, IfErr};
+ghost use Rattle.std.specs.Prelude.{◌≡◌, ℕ, ◌+◌, ◌<◌, ◌≤◌, true, false, slice_set, Some, None, OnOk, OnErr, IfErr};
 ghost use Rattle.std.specs.List.{list_any};
 ghost use Rattle.ng_seats.specs.CoreStory.{story};
 ghost use Rattle.ng_story.specs.Closing.{close_refusal, closed_with};

@@ -10,27 +10,50 @@ ghost use Rattle.ng_story.specs.Story.{AreFitFor, has_ended, with_event, with_in
 
 use crate::{Core, FeedFault};
 use ng_base::{Event, NoMemory};
+use ng_events::Journal;
 use ng_intake::feed_input;
 use ng_machine::Input;
 use ng_node::Node;
 use std::alloc::Global;
 
 // Room for an input more, and for its event beside those that the taken items will have.
-fn make_room(inputs: &mut Vec<Input>, journal: &mut Vec<Event>, out: u64) -> Result<(), NoMemory>
-    requires { vec_len journal.old + (out + 1) ≤ vec_capacity journal.old }
+fn make_room(inputs: &mut Vec<Input>, journal: &mut Journal, out: u64) -> Result<(), NoMemory>
+    requires { out + 1 ≤ journal.old.room }
     ensures few { length inputs.old.items < 2 ^ 63 }
     ensures inputs { inputs.new.items ≡ inputs.old.items }
     ensures journal { journal.new.items ≡ journal.old.items }
-    ensures same { vec_len journal.new ≡ vec_len journal.old }
-    ensures more { vec_capacity journal.old ≤ vec_capacity journal.new }
-    ensures room { OnOk result ((vec_len inputs.new < vec_capacity inputs.new) × (vec_len journal.new + (out + 2) ≤ vec_capacity journal.new)) }
+    ensures more { journal.old.room ≤ journal.new.room }
+    ensures room { OnOk result ((vec_len inputs.new < vec_capacity inputs.new) × (out + 2 ≤ journal.new.room)) }
 {
+    let Some(events) = (out as usize).checked_add(2) else {
+        return Err(NoMemory);
+    };
     inputs.reserve(1)?;
-    journal.reserve(out as usize + 2)?;
-    Ok(())
+    journal.reserve(events)
+}
+
+// How many events an input makes of itself and of what follows, more or less.
+const EVENTS: usize = 16;
+
+// Room ahead for so many inputs and their events, as far as there is memory.
+fn make_room_ahead(inputs: &mut Vec<Input>, journal: &mut Journal, count: usize)
+    ensures inputs { inputs.new.items ≡ inputs.old.items }
+    ensures journal { journal.new.items ≡ journal.old.items }
+    ensures more { journal.old.room ≤ journal.new.room }
+{
+    let _reserved = inputs.reserve(count);
+    journal.expect(count.saturating_mul(EVENTS));
 }
 
 impl<B: Node> Core<B> {
+    /// Takes memory ahead for so many inputs and for what they bring about, as far as there is memory: lists that are long then
+    /// don't grow by being copied. Nothing else changes.
+    pub fn expect(&mut self, inputs: usize)
+        ensures { self.new ≡ self.old }
+    {
+        make_room_ahead(&mut self.inputs, &mut self.journal, inputs);
+    }
+
     /// Feeds an input, as the seat 0.
     ///
     /// # Errors

@@ -1,7 +1,8 @@
 // The core, and what is known of one.
 ghost use Rattle.std.specs.Prelude.{◌≡◌, ◌&&◌, true};
 
-use ng_base::{Event, Kind, Name};
+use ng_base::{Kind, Name};
+use ng_events::Journal;
 use ng_machine::Input;
 use ng_node::Node;
 use ng_story::Desk;
@@ -21,7 +22,7 @@ pub struct Core<B: Node> {
     pub(crate) budget: u64,
     pub(crate) seats: u32,
     pub(crate) inputs: Vec<Input>,
-    pub(crate) journal: Vec<Event>,
+    pub(crate) journal: Journal,
     pub(crate) gave_up: Vec<bool>,
     pub(crate) closed: Option<u64>,
     pub(crate) state: State<B>,

@@ -9,6 +9,7 @@ ghost use Rattle.ng_machine.specs.World.{blank_port};
 
 use crate::Core;
 use ng_base::{Kind, Name, NoMemory};
+use ng_events::Journal;
 use ng_node::Node;
 use ng_pending::Pending;
 use ng_topology::Graph;
@@ -91,7 +92,8 @@ impl<B: Node> Core<B> {
         let pending = Pending::new(alloc, stock.len() + 1)?;
         let kept = begin_ports(alloc, ports.len())?;
         let graph = begin_graph(alloc, own, &ports, stock)?;
-        let journal = Vec::with_capacity(alloc, 1)?;
+        let mut journal = Journal::new(alloc);
+        journal.reserve(1)?;
         let gave_up = vec![in alloc; false; seats as usize]?;
         let state = State {
             graph,

@@ -10,7 +10,8 @@ ghost use Rattle.ng_story.specs.Story.{world_of};
 
 use crate::Core;
 use crate::counting::{count_hooks, count_nodes};
-use ng_base::{Event, Packet, Stamp};
+use ng_base::{Packet, Stamp};
+use ng_events::Journal;
 use ng_machine::{PortTotals, Told, Totals};
 use ng_node::Node;
 
@@ -22,8 +23,8 @@ impl<B: Node> Core<B> {
     /// `close` has ended the core nothing is pending. So each accepted item is applied once, dropped or pending, each lane's items
     /// are in order, a writer is alone on its node, and nothing is applied to a node that is gone. The core has a seat, and the
     /// inputs that it was fed fit.
-    pub fn journal(&self) -> &[Event]
-        ensures journal { result.now ≡ self.now.journal }
+    pub fn journal(&self) -> &Journal
+        ensures journal { result.now.items ≡ self.now.journal }
         ensures sound { IsSoundStory (story self.now) }
         ensures laws { IsLawful (story self.now) }
         ensures modest { IsModest (setting_of self.now) }
@@ -33,7 +34,7 @@ impl<B: Node> Core<B> {
     }
 
     /// The journal, taken out.
-    pub fn into_journal(self) -> Vec<Event>
+    pub fn into_journal(self) -> Journal
         ensures { result.items ≡ self.journal }
     {
         self.journal

@@ -1,5 +1,5 @@
 // What waits is dropped at the limit of applied items.
-ghost use Rattle.std.specs.Prelude.{◌≡◌, ℕ, ◌+◌, ◌<◌, ◌++◌, [], true, length, vec_len, vec_capacity, ◌&&◌, ◌||◌, nat_lt};
+ghost use Rattle.std.specs.Prelude.{◌≡◌, ℕ, ◌+◌, ◌<◌, ◌≤◌, ◌++◌, [], true, length, ◌&&◌, ◌||◌, nat_lt};
 ghost use Rattle.ng_machine.specs.LowRun.{IsLow};
 ghost use Rattle.ng_machine.specs.Run.{RunState, stop};
 ghost use Rattle.ng_pending.specs.Holds.{in_world};
@@ -11,6 +11,7 @@ ghost use Rattle.ng_tie.specs.TieLaws.{one};
 ghost use Rattle.ng_world.specs.Stands.{Stands};
 
 use ng_base::Event;
+use ng_events::Journal;
 use ng_node::Node;
 use ng_queue::Queues;
 use ng_world::State;
@@ -44,14 +45,13 @@ pub(crate) fn stops(spent: bool, pending: u64, unfed: u64) -> bool
 }
 
 /// A Stop is made, where there is one: all that waits is dropped then.
-pub(crate) fn stop_if<B: Node>(stops: bool, state: &mut State<B>, journal: &mut Vec<Event>)
+pub(crate) fn stop_if<B: Node>(stops: bool, state: &mut State<B>, journal: &mut Journal)
     requires work { stops ≡ true → (a : RunState) × Stands state.old a × (a.taken ≡ []) × IsLow a.world }
-    requires room { vec_len journal.old < vec_capacity journal.old }
+    requires room { 0 < journal.old.room }
     ensures stands { (a : RunState) → Stands state.old a → (stops ≡ true → a.taken ≡ []) → Stands state.new (stopped_run stops a) }
     ensures out { state.new.pending.out ≡ state.old.pending.out }
     ensures journal { journal.new.items ≡ journal.old.items ++ stop_events stops }
-    ensures len { vec_len journal.new ≡ vec_len journal.old + one stops }
-    ensures capacity { vec_capacity journal.new ≡ vec_capacity journal.old }
+    ensures room { journal.old.room ≤ journal.new.room + one stops }
 {
     if stops {
         stop(state);

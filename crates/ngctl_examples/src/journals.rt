@@ -1,10 +1,11 @@
 // Journals, as they are written and as they are read.
 use crate::same::holds;
 use ng_base::{Event, ItemId};
+use ng_events::Journal;
 use ng_journal::{JournalFault, put_journal, read_journal};
 use std::test::Fail;
 
-const JOURNAL: [Event; 9] = [
+const EVENTS: [Event; 9] = [
     Event::Feed,
     Event::Take {
         id: ItemId(1),
@@ -32,7 +33,11 @@ const TEXT: &str =
 fn a_journal_is_written(rt: HostRuntime) -> Result<(), Fail> {
     let alloc = rt.alloc();
     let mut out = Vec::new(alloc);
-    put_journal(alloc, &mut out, &JOURNAL)?;
+    let mut journal = Journal::new(alloc);
+    for event in EVENTS {
+        journal.push(event)?;
+    }
+    put_journal(alloc, &mut out, &journal)?;
     assert_eq!(rt; out.as_slice(), TEXT.as_bytes());
     Ok(())
 }
@@ -41,7 +46,8 @@ fn a_journal_is_written(rt: HostRuntime) -> Result<(), Fail> {
 fn a_journal_is_read(rt: HostRuntime) -> Result<(), Fail> {
     let alloc = rt.alloc();
     let journal = read_journal(alloc, TEXT.as_bytes())?;
-    assert!(rt; journal.as_slice() == JOURNAL.as_slice());
+    let events: Vec<Event> = journal.events().collect(alloc)?;
+    assert!(rt; events.as_slice() == EVENTS.as_slice());
     Ok(())
 }
 

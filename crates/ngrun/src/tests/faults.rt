@@ -8,6 +8,7 @@ use super::{Held, ROOM, file, holds, paced_files, words_in};
 use crate::stocked::run_stocked;
 use crate::top::Ran;
 use ng_base::Event;
+use ng_events::Journal;
 use ng_outside::{MemFiles, MemSink, OpenGate};
 use ng_run::{Ended, Fault, Which};
 use std::alloc::{AllocError, Global};
@@ -158,9 +159,9 @@ fn has_text(out: &MemSink, way: &Way) -> bool {
 }
 
 // A journal as a file.
-fn journal_of(alloc: Global, events: &[Event]) -> Result<String, AllocError> {
+fn journal_of(alloc: Global, journal: &Journal) -> Result<String, AllocError> {
     let mut text = String::from_str(alloc, "ngjournal 1\n")?;
-    for event in events {
+    for event in journal.events() {
         let line = match event {
             Event::Feed => String::from_str(alloc, "F\n")?,
             Event::Take { id, seat } => {

@@ -15,8 +15,8 @@ pub returns : goal.returns
 returns c =
     let P : Timed → Type 0 = λ script. AreInOrder First script in
     whole c.args.script (merged c.in_ok-queues.queues.items) (subst P c.script.view_is c.script.invariant.ordered) c.count-packets.result c.of-commands.result c.feed_turn.new.self c.feed_turn-2.new.self c.feed_packets.new.commands
-    c.new-inputs.result.items c.feed_turn.new.inputs.items c.feed_turn-2.new.inputs.items c.feed_packets.new.inputs.items c.feed_late.new.inputs.items
+    c.in_ok-inputs.inputs.items c.feed_turn.new.inputs.items c.feed_turn-2.new.inputs.items c.feed_packets.new.inputs.items c.feed_late.new.inputs.items
     (c.count-packets.ensures.packets ∙ ap packet_count c.deref.ensures.value ∙ sym (counted c.in_ok-queues.queues.items))
-    c.of-commands.ensures c.new-inputs.ensures.items c.in_ok-feed_turn.ensures.inputs c.in_ok-feed_turn.ensures.rest c.in_ok-feed_turn-2.ensures.inputs c.in_ok-feed_turn-2.ensures.rest
+    c.of-commands.ensures c.in_ok-inputs.ensures c.in_ok-feed_turn.ensures.inputs c.in_ok-feed_turn.ensures.rest c.in_ok-feed_turn-2.ensures.inputs c.in_ok-feed_turn-2.ensures.rest
     c.in_ok-feed_packets.ensures.inputs c.in_ok-feed_packets.ensures.rest c.in_ok-feed_late.ensures
     ∙ ap (λ queues. inputs_with c.args.script (merged queues)) c.in_ok-queues.ensures

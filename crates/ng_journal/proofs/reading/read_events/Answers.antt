@@ -17,6 +17,6 @@ loop-front-preserved c =
     record {
       read = c.loop-front.invariant.read
           ∙ onward c.loop-front.events.items event c.loop-front.line c.in-Some.front.now behind c.loop-front.rest.now c.in-Some.ensures.parts (sym c.read_event.ensures ∙ c.in-Some-read_event.is)
-          ∙ ap (λ (events : List Event). onto events (events_from (c.loop-front.line + 1) (lines_of behind))) (sym c.in_ok-push.ensures.items);
+          ∙ ap (λ (events : List Event). onto events (events_from (c.loop-front.line + 1) (lines_of behind))) (sym c.in_ok-push.ensures.ok);
       few = (let few = c.loop-front.invariant.few in let less = c.in-Some.ensures.shorter in omega arith);
     }

@@ -1,5 +1,5 @@
 -- The core has followed the events so far, and each seat holds what its desk says until it ended.
-use Rattle.std.proofs.Common.{◌≡◌, length, take}
+use Rattle.std.proofs.Common.{◌≡◌, ◌++◌, length}
 use Rattle.ng_judge.specs.Following.{HasFollowed, HoldsWhileOpen, all_with}
 use Rattle.ng_seats.specs.CoreStory.{story}
 use Rattle.ng_story.specs.Story.{AreFitFor}
@@ -7,6 +7,6 @@ use Rattle.ng_judge.proofs.judging.follow_all.Given as goal
 
 abbrev pub invariant-loop-event : goal.invariant-loop-event
 invariant-loop-event g l =
-    HasFollowed (all_with (story l.fn.core) l.fn.unfed) (take l.event-index l.journal) (story l.core) l.unfed
+    HasFollowed (all_with (story l.fn.core) l.fn.unfed) l.yielded (story l.core) l.unfed
     × HoldsWhileOpen g.B.Node.state l.held (story l.core) × AreFitFor (story l.core) l.unfed × (l.core.seats ≡ l.fn.core.seats)
-    × (length l.held ≡ length l.fn.held) × (l.number ≡ l.event-index)
+    × (length l.held ≡ length l.fn.held) × (l.number ≡ length l.yielded) × (l.yielded ++ l.event-iterator ≡ l.journal.items)

@@ -18,4 +18,4 @@ pub returns-clause-world : goal.returns-clause-world
 returns-clause-world g c = λ yes.
     world_is (kinds_of g.B.Node.state c.args.stock.items) c.args.words.now c.args.inputs.items
     c.in_ok-core.core c.in_ok-ports.ports.items c.in_ok-core.ensures (rw (sym c.as_slice.ensures) c.in_ok-ports.ensures)
-    c.args.journal.now c.judge.new.core (c.in_ok-verdict.ensures.stands yes)
+    c.args.journal.now.items c.judge.new.core (c.in_ok-verdict.ensures.stands yes)

@@ -1,7 +1,5 @@
-use Rattle.std.proofs.Common.{◌∙◌, List, map, refl, ap, subst, arith}
-use Rattle.ng_base.specs.declared.event.Event.{Event}
+use Rattle.std.proofs.Common.{◌∙◌, map, refl, ap, subst, arith}
 use Rattle.ng_judge.specs.Verdict.{IsVerdict}
-use Rattle.ng_machine.specs.Laws.{world_after}
 use Rattle.ng_pcap.specs.declared.capture.Capture.{Capture}
 use Rattle.ng_seats.specs.CoreStory.{story}
 use Rattle.ng_story.specs.Story.{world_of}
@@ -48,25 +46,24 @@ returns-in-No g c = λ files before after all.
     c.know_inputs.ensures.held c.know_inputs.ensures.script c.know_inputs.ensures.fit c.know_inputs.ensures.timed c.in-Ok-inputs.inputs.items c.in-Ok-inputs.ensures)
     _ _ before after _ _ c.in-No.at refl
     (subst (IsVerdict (setting_of (kinds_of g.B.Node.state c.args.stock.items) (run_of c.args.words.now) c.in-Ok-inputs.inputs.items) c.args.read.journal.items) c.in-No.is
-    (subst (λ (l : List Event). IsVerdict (setting_of (kinds_of g.B.Node.state c.args.stock.items) (run_of c.args.words.now) c.in-Ok-inputs.inputs.items) l c.in-Ok-judge_run.verdict) c.deref-2.ensures.value
-    c.in-Ok-judge_run.ensures.verdict))
+    c.in-Ok-judge_run.ensures.verdict)
 
 pub print_core-requires-clause-printable : goal.print_core-requires-clause-printable
 print_core-requires-clause-printable g c κs within =
     let yes = yes_of c.in-Ok-judge_run.verdict c.in_default-verdict.not-No in
-    let is = subst (IsVerdict (setting_of (kinds_of g.B.Node.state c.args.stock.items) (run_of c.args.words.now) c.in-Ok-inputs.inputs.items) c.deref-2.result.now) yes c.in-Ok-judge_run.ensures.verdict in
-    rw c.deref-4.ensures.value
+    let is = subst (IsVerdict (setting_of (kinds_of g.B.Node.state c.args.stock.items) (run_of c.args.words.now) c.in-Ok-inputs.inputs.items) c.args.read.journal.items) yes c.in-Ok-judge_run.ensures.verdict in
+    rw c.deref-2.ensures.value
     (all_printable c.requires.read.0 (run_of c.args.words.now) c.args.read.given.script.script c.args.read.given.script.commands.items c.args.read.given.captures.items
     (kinds_of g.B.Node.state c.args.stock.items) c.requires.form.of_run c.requires.read.1.pass
     c.know_inputs.ensures.held c.know_inputs.ensures.script c.know_inputs.ensures.fit c.know_inputs.ensures.timed c.in-Ok-inputs.inputs.items c.in-Ok-inputs.ensures
-    c.told_is_printable.ensures c.deref-2.result.now (world_of (story c.in-Ok-judge_run.core)) is.0 (c.in-Ok-judge_run.ensures.world yes))
+    c.told_is_printable.ensures c.args.read.journal.items (world_of (story c.in-Ok-judge_run.core)) is.0 (c.in-Ok-judge_run.ensures.world yes))
 
 pub print_core-requires-clause-cuts : goal.print_core-requires-clause-cuts
 print_core-requires-clause-cuts g c κs within =
     cuts_many c.requires.read.0 (run_of c.args.words.now) c.args.read.given.script.script c.args.read.given.script.commands.items c.args.read.given.captures.items
     (kinds_of g.B.Node.state c.args.stock.items) c.requires.form.of_run c.requires.read.1.pass
-    c.as_slice-ports.result.now c.deref-5.result.now c.as_slice-ports.ensures
-    (c.deref-5.ensures.value ∙ c.in-Ok.ensures ∙ ap (map (λ (capture : Capture). capture.cut)) c.deref.ensures.value)
+    c.as_slice-ports.result.now c.deref-3.result.now c.as_slice-ports.ensures
+    (c.deref-3.ensures.value ∙ c.in-Ok.ensures ∙ ap (map (λ (capture : Capture). capture.cut)) c.deref.ensures.value)
 
 pub returns-in-Ok-print_core : goal.returns-in-Ok-print_core
 returns-in-Ok-print_core g c = λ files before after all.
@@ -79,13 +76,13 @@ returns-in-Ok-print_core g c = λ files before after all.
     c.know_inputs.ensures.held c.know_inputs.ensures.script c.know_inputs.ensures.fit c.know_inputs.ensures.timed c.in-Ok-inputs.inputs.items c.in-Ok-inputs.ensures)
     (g.O.Sink.contents c.args.out.now) (g.O.Sink.contents c.print_core.new.out) before after (g.O.Sink.faults c.args.out.now) (g.O.Sink.faults c.print_core.new.out)
     (subst (IsVerdict (setting_of (kinds_of g.B.Node.state c.args.stock.items) (run_of c.args.words.now) c.in-Ok-inputs.inputs.items) c.args.read.journal.items) yes
-    (subst (λ (l : List Event). IsVerdict (setting_of (kinds_of g.B.Node.state c.args.stock.items) (run_of c.args.words.now) c.in-Ok-inputs.inputs.items) l c.in-Ok-judge_run.verdict) c.deref-2.ensures.value c.in-Ok-judge_run.ensures.verdict))
+    c.in-Ok-judge_run.ensures.verdict)
     (world_of (story c.in-Ok-judge_run.core))
-    (c.in-Ok-judge_run.ensures.world yes ∙ ap (world_after (setting_of (kinds_of g.B.Node.state c.args.stock.items) (run_of c.args.words.now) c.in-Ok-inputs.inputs.items)) c.deref-2.ensures.value)
-    c.as_slice-ports.result.now c.as_slice-ports.ensures c.deref-5.result.now
-    (c.deref-5.ensures.value ∙ c.in-Ok.ensures ∙ ap (map (λ (capture : Capture). capture.cut)) (c.deref.ensures.value ∙ all.pass.captures_are))
-    c.deref-4.result.now (c.deref-4.ensures.value ∙ all.pass.commands_are) c.len-of.result (omega (arith, c.len-of.ensures, c.in-Ok-inputs.inputs.ok.0))
-    c.deref-3.result.now c.deref-3.ensures.value c.print_core.result c.print_core.ensures c.in-Ok-print_core.field-0 c.in-Ok-print_core.is
+    (c.in-Ok-judge_run.ensures.world yes)
+    c.as_slice-ports.result.now c.as_slice-ports.ensures c.deref-3.result.now
+    (c.deref-3.ensures.value ∙ c.in-Ok.ensures ∙ ap (map (λ (capture : Capture). capture.cut)) (c.deref.ensures.value ∙ all.pass.captures_are))
+    c.deref-2.result.now (c.deref-2.ensures.value ∙ all.pass.commands_are) c.len-of.result (omega (arith, c.len-of.ensures, c.in-Ok-inputs.inputs.ok.0))
+    c.args.read.journal.items refl c.print_core.result c.print_core.ensures c.in-Ok-print_core.field-0 c.in-Ok-print_core.is
 
 pub returns-in-Err-Fault : goal.returns-in-Err-Fault
 returns-in-Err-Fault g c = λ files before after all.
@@ -98,13 +95,13 @@ returns-in-Err-Fault g c = λ files before after all.
     c.know_inputs.ensures.held c.know_inputs.ensures.script c.know_inputs.ensures.fit c.know_inputs.ensures.timed c.in-Ok-inputs.inputs.items c.in-Ok-inputs.ensures)
     (g.O.Sink.contents c.args.out.now) (g.O.Sink.contents c.print_core.new.out) before after (g.O.Sink.faults c.args.out.now) (g.O.Sink.faults c.print_core.new.out)
     (subst (IsVerdict (setting_of (kinds_of g.B.Node.state c.args.stock.items) (run_of c.args.words.now) c.in-Ok-inputs.inputs.items) c.args.read.journal.items) yes
-    (subst (λ (l : List Event). IsVerdict (setting_of (kinds_of g.B.Node.state c.args.stock.items) (run_of c.args.words.now) c.in-Ok-inputs.inputs.items) l c.in-Ok-judge_run.verdict) c.deref-2.ensures.value c.in-Ok-judge_run.ensures.verdict))
+    c.in-Ok-judge_run.ensures.verdict)
     (world_of (story c.in-Ok-judge_run.core))
-    (c.in-Ok-judge_run.ensures.world yes ∙ ap (world_after (setting_of (kinds_of g.B.Node.state c.args.stock.items) (run_of c.args.words.now) c.in-Ok-inputs.inputs.items)) c.deref-2.ensures.value)
-    c.as_slice-ports.result.now c.as_slice-ports.ensures c.deref-5.result.now
-    (c.deref-5.ensures.value ∙ c.in-Ok.ensures ∙ ap (map (λ (capture : Capture). capture.cut)) (c.deref.ensures.value ∙ all.pass.captures_are))
-    c.deref-4.result.now (c.deref-4.ensures.value ∙ all.pass.commands_are) c.len-of.result (omega (arith, c.len-of.ensures, c.in-Ok-inputs.inputs.ok.0))
-    c.deref-3.result.now c.deref-3.ensures.value c.print_core.result c.print_core.ensures c.in-Err-Fault.field-0 c.in-Err-Fault.is c.in-Err-Fault.field-0-is
+    (c.in-Ok-judge_run.ensures.world yes)
+    c.as_slice-ports.result.now c.as_slice-ports.ensures c.deref-3.result.now
+    (c.deref-3.ensures.value ∙ c.in-Ok.ensures ∙ ap (map (λ (capture : Capture). capture.cut)) (c.deref.ensures.value ∙ all.pass.captures_are))
+    c.deref-2.result.now (c.deref-2.ensures.value ∙ all.pass.commands_are) c.len-of.result (omega (arith, c.len-of.ensures, c.in-Ok-inputs.inputs.ok.0))
+    c.args.read.journal.items refl c.print_core.result c.print_core.ensures c.in-Err-Fault.field-0 c.in-Err-Fault.is c.in-Err-Fault.field-0-is
 
 pub returns : goal.returns
 returns g c = λ files before after all.
@@ -117,10 +114,10 @@ returns g c = λ files before after all.
     c.know_inputs.ensures.held c.know_inputs.ensures.script c.know_inputs.ensures.fit c.know_inputs.ensures.timed c.in-Ok-inputs.inputs.items c.in-Ok-inputs.ensures)
     (g.O.Sink.contents c.args.out.now) (g.O.Sink.contents c.print_core.new.out) before after (g.O.Sink.faults c.args.out.now) (g.O.Sink.faults c.print_core.new.out)
     (subst (IsVerdict (setting_of (kinds_of g.B.Node.state c.args.stock.items) (run_of c.args.words.now) c.in-Ok-inputs.inputs.items) c.args.read.journal.items) yes
-    (subst (λ (l : List Event). IsVerdict (setting_of (kinds_of g.B.Node.state c.args.stock.items) (run_of c.args.words.now) c.in-Ok-inputs.inputs.items) l c.in-Ok-judge_run.verdict) c.deref-2.ensures.value c.in-Ok-judge_run.ensures.verdict))
+    c.in-Ok-judge_run.ensures.verdict)
     (world_of (story c.in-Ok-judge_run.core))
-    (c.in-Ok-judge_run.ensures.world yes ∙ ap (world_after (setting_of (kinds_of g.B.Node.state c.args.stock.items) (run_of c.args.words.now) c.in-Ok-inputs.inputs.items)) c.deref-2.ensures.value)
-    c.as_slice-ports.result.now c.as_slice-ports.ensures c.deref-5.result.now
-    (c.deref-5.ensures.value ∙ c.in-Ok.ensures ∙ ap (map (λ (capture : Capture). capture.cut)) (c.deref.ensures.value ∙ all.pass.captures_are))
-    c.deref-4.result.now (c.deref-4.ensures.value ∙ all.pass.commands_are) c.len-of.result (omega (arith, c.len-of.ensures, c.in-Ok-inputs.inputs.ok.0))
-    c.deref-3.result.now c.deref-3.ensures.value c.print_core.result c.print_core.ensures c.in-Err-NoMemory.field-0 c.in-Err-NoMemory.is
+    (c.in-Ok-judge_run.ensures.world yes)
+    c.as_slice-ports.result.now c.as_slice-ports.ensures c.deref-3.result.now
+    (c.deref-3.ensures.value ∙ c.in-Ok.ensures ∙ ap (map (λ (capture : Capture). capture.cut)) (c.deref.ensures.value ∙ all.pass.captures_are))
+    c.deref-2.result.now (c.deref-2.ensures.value ∙ all.pass.commands_are) c.len-of.result (omega (arith, c.len-of.ensures, c.in-Ok-inputs.inputs.ok.0))
+    c.args.read.journal.items refl c.print_core.result c.print_core.ensures c.in-Err-NoMemory.field-0 c.in-Err-NoMemory.is

@@ -1,7 +1,6 @@
-use Rattle.std.proofs.Common.{◌≡◌, ◌+◌, ◌<◌, ◌^◌, sym, subst, arith}
+use Rattle.std.proofs.Common.{◌<◌, ◌^◌, sym, subst, arith}
 use Rattle.ng_machine.specs.World.{node_id, node_in}
 use Rattle.ng_seats.proofs.HookTotals.{count_few, total_more}
-use Rattle.ng_seats.specs.Counting.{hook_count}
 use Rattle.ng_seats.proofs.counting.count_hooks.Goals as goal
 use Rattle.ng_seats.proofs.counting.count_hooks.Goals.{After-hooks_at-count}
 

@@ -1,4 +1,4 @@
-use Rattle.std.proofs.Common.{◌≡◌, ◌≤◌, ◌*◌, ◌^◌, take}
+use Rattle.std.proofs.Common.{◌≡◌, ◌≤◌, ◌*◌, take}
 use Rattle.ng_machine.specs.Totals.{hook_total}
 use Rattle.ng_seats.proofs.counting.count_hooks.Given as goal
 

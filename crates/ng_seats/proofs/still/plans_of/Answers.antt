@@ -1,8 +1,8 @@
-use Rattle.std.proofs.Common.{◌≡◌, ◌+◌, length, arith}
+use Rattle.std.proofs.Common.{arith}
 use Rattle.std.proofs.lemmas.Grind.{common_steps}
 use Rattle.std.specs.Arc.{arc_value}
 use Rattle.std.specs.Option.{option_map}
-use Rattle.ng_seats.proofs.StillPlans.{planned_more, planned_all}
+use Rattle.ng_seats.proofs.StillPlans.{planned_more}
 use Rattle.ng_seats.proofs.still.plans_of.Goals as goal
 
 pub loop-n-preserved : goal.loop-n-preserved

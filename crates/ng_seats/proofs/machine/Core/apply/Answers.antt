@@ -1,6 +1,6 @@
 use Rattle.std.proofs.Common.{◌≡◌, ◌∙◌, List, [], ◌∷◌, ◌++◌, false, sym, ap, subst, arith}
 use Rattle.std.specs.declared.option.Option.{Option}
-use Rattle.std.specs.declared.option.Option.TheVariants.{None, Some}
+use Rattle.std.specs.declared.option.Option.TheVariants.{None}
 use Rattle.ng_base.specs.declared.event.Event.{Event}
 use Rattle.ng_base.specs.declared.event.Event.TheVariants.{Apply}
 use Rattle.ng_base.specs.declared.ids.ItemId.{ItemId}
@@ -71,7 +71,7 @@ invariant_of-self g c =
       low = subst (λ (x : Story). IsLow (world_of x)) (sym (grown g late)) (low_sound (with_event s (Apply item.id)) (apply_keeps_sound s item.id c.args.seat c.self.invariant.sound (is_open g early) W.taken) c.self.invariant.modest (is_open g early));
       some = c.self.invariant.some;
       stands = subst (λ (x : Story). Stands c.apply.new.state (run_state_of x)) (sym (grown g late)) (stands_pushed c.apply.new.state s (Apply item.id) N);
-      room = λ z. let was = c.self.invariant.stands.items.out in let is = N.items.out in let room = c.self.invariant.room z in let len = c.push_reserved.ensures.len in let cap = c.push_reserved.ensures.capacity in omega arith;
+      room = λ z. let was = c.self.invariant.stands.items.out in let is = N.items.out in let room = c.self.invariant.room z in let left = c.push_reserved.ensures.room in omega arith;
     }
 
 tells : (g : _) (c : After-self g) → Others c.args.seat (story (story_in c.self.inside)) (with_event (story (story_in c.self.inside)) (Apply (item_done c.args.done).id))

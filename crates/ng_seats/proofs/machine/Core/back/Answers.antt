@@ -60,7 +60,7 @@ invariant_of-self g c =
       low = subst (λ (x : Story). IsLow (world_of x)) (sym (grown g c)) (low_sound (with_event s (Back item.id)) (back_keeps_sound s item.id c.args.seat c.self.invariant.sound (is_open g early) W.taken) c.self.invariant.modest (is_open g early));
       some = c.self.invariant.some;
       stands = subst (λ (x : Story). Stands c.put_back.new.state (run_state_of x)) (sym (grown g c)) (stands_pushed c.put_back.new.state s (Back item.id) N);
-      room = λ z. let was = c.self.invariant.stands.items.out in let is = N.items.out in let room = c.self.invariant.room z in let len = c.push_reserved.ensures.len in let cap = c.push_reserved.ensures.capacity in omega arith;
+      room = λ z. let was = c.self.invariant.stands.items.out in let is = N.items.out in let room = c.self.invariant.room z in let left = c.push_reserved.ensures.room in omega arith;
     }
 
 tells : (g : _) (c : After-self g) → Others c.args.seat (story (story_in c.self.inside)) (with_event (story (story_in c.self.inside)) (Back (item_of c.args.work).id))

@@ -42,8 +42,7 @@ roomy x inputs journal i j = ap (λ (l : List Input). let y : CoreStory = record
 pub invariant_of-self : goal.invariant_of-self
 invariant_of-self g c =
     let e = roomy (story_in c.self.inside) c.make_room.new.inputs.items c.make_room.new.journal.items c.make_room.ensures.inputs c.make_room.ensures.journal in
-    let len = c.make_room.ensures.same in
-    let cap = c.make_room.ensures.more in
+    let more = c.make_room.ensures.more in
     record {
       sound = subst (λ (x : CoreStory). IsSoundStory (story x)) e c.self.invariant.sound;
       modest = subst (λ (x : CoreStory). IsModest (setting_of x)) e c.self.invariant.modest;
@@ -67,8 +66,7 @@ feed_input-requires-clause-fits g c κs within =
 pub invariant_of-self-in_default-feed_input : goal.invariant_of-self-in_default-feed_input
 invariant_of-self-in_default-feed_input g c =
     let e = roomy (story_in c.self.inside) c.make_room.new.inputs.items c.make_room.new.journal.items c.make_room.ensures.inputs c.make_room.ensures.journal in
-    let len = c.make_room.ensures.same in
-    let cap = c.make_room.ensures.more in
+    let more = c.make_room.ensures.more in
     let out = c.feed_input.ensures.out in
     record {
       sound = subst (λ (x : CoreStory). IsSoundStory (story x)) e c.self.invariant.sound;
@@ -99,8 +97,7 @@ invariant_of-self-2 g c =
     let N = c.in-Ok-feed_input.ensures.fed (run_state_of s) (given_with s c.args.input) refl c.self.invariant.stands in
     let room = c.in-Ok.ensures.room.1 in
     let out = c.feed_input.ensures.out in
-    let len = c.push_reserved-2.ensures.len in
-    let cap = c.push_reserved-2.ensures.capacity in
+    let left = c.push_reserved-2.ensures.room in
     record {
       sound = subst (λ (z : CoreStory). IsSoundStory (story z)) (sym (grown g at)) (feed_keeps_sound s c.args.input c.self.invariant.sound early none);
       modest = subst (λ (z : CoreStory). IsModest (setting_of z)) (sym (grown g at)) (subst (λ (z : CoreStory). AreFitFor (story z) (c.args.input ∷ [])) (sym c.self.view_is) c.requires.fits);

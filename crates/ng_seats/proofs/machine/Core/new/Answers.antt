@@ -32,7 +32,7 @@ invariant_of-result g c =
     let kinds = map (λ b. kind_of (g.B.Node.state b)) c.args.stock.items in
     let same : c.in_ok-kinds.kinds.items ≡ kinds = c.in_ok-kinds.ensures ∙ ap (map (λ b. kind_of (g.B.Node.state b))) c.deref.ensures.value in
     let begun : CoreStory = begun_core c.args.own c.args.ports.items kinds c.args.budget c.args.seats in
-    let is = made begun c.in_ok-kinds.kinds.items c.new-3.result.items c.in_ok-journal.journal.items c.in_ok-gave_up.gave_up.items same c.new-3.ensures.items c.in_ok-journal.ensures.items (c.in_ok-gave_up.ensures.items_if_clones_equal (λ y e. e)) in
+    let is = made begun c.in_ok-kinds.kinds.items c.new-3.result.items c.reserve.new.self.items c.in_ok-gave_up.gave_up.items same c.new-3.ensures.items (c.in_ok-reserve.ensures.items ∙ c.new-journal.ensures) (c.in_ok-gave_up.ensures.items_if_clones_equal (λ y e. e)) in
     let graph = c.in_ok-graph.ensures ∙ ap (λ (l : List (List ℕ)). start_graph c.args.own l kinds) c.deref-2.ensures.value in
     let long = map_length (λ b. kind_of (g.B.Node.state b)) c.args.stock.items in
     let lists : length c.in_ok-pending.pending.queues.lists ≡ length kinds + 1 = let a = c.in_ok-pending.ensures.lists in let b = c.len.ensures in grind (arith, common_steps) in
@@ -48,5 +48,5 @@ invariant_of-result g c =
       stands = subst (λ (z : CoreStory). Stands {B = g.row.B.Denot} (record { graph = c.in_ok-graph.graph; pending = c.in_ok-pending.pending; told = c.new-2.result; ports = c.in_ok-kept.kept }) (run_state_of (story z))) is
           (stands_begun (record { graph = c.in_ok-graph.graph; pending = c.in_ok-pending.pending; told = c.new-2.result; ports = c.in_ok-kept.kept }) c.args.own c.args.ports.items kinds c.requires.boxes graph
           holds lists c.new-2.ensures.items kept);
-      room = λ z. let out = holds.out in let len = c.in_ok-journal.ensures.len in let cap = c.in_ok-journal.ensures.capacity in omega arith;
+      room = λ z. let out = holds.out in let room = c.in_ok-reserve.ensures.room in omega arith;
     }

@@ -1,7 +1,6 @@
-use Rattle.std.proofs.Common.{◌≡◌, ◌≤◌, List, Option, length, sym, ap, ◌∙◌, arith}
+use Rattle.std.proofs.Common.{List, Option, sym, ap, ◌∙◌, arith}
 use Rattle.ng_machine.specs.World.{NodeRecord, node_in}
-use Rattle.ng_story.specs.Story.{world_of}
-use Rattle.ng_seats.specs.CoreStory.{setting_of, story}
+use Rattle.ng_seats.specs.CoreStory.{setting_of}
 use Rattle.ng_seats.specs.Kept.{story_in}
 use Rattle.ng_seats.proofs.FewHooks.{hooks_are_few}
 use Rattle.ng_seats.proofs.machine.Core.totals.Goals as goal
