@@ -184,6 +184,17 @@ impl Pending {
         self.queues.widen(to.0 as usize)
     }
 
+    /// Gives back room for one item at a node that has a queue, where there is some.
+    pub fn narrow(&mut self, to: NodeId)
+        requires { to.0 < length self.old.queues.lists }
+        ensures holds { (a : RunState) → HoldsItems self.old a → HoldsItems self.new a }
+        ensures lists { self.new.queues.lists ≡ self.old.queues.lists }
+        ensures tally { self.new.tally ≡ self.old.tally }
+        ensures spares { self.new.queues.spares ≡ slice_set self.old.queues.spares to.0 (spare_at self.old.queues.spares to.0 - 1) }
+    {
+        self.queues.narrow(to.0 as usize);
+    }
+
     /// An item is accepted, where its node has room: it gets the next number and its mode, and stands last.
     pub fn accept(&mut self, to: NodeId, kind: Kind, body: Body, tag: Option<u32>, stamp: Stamp)
         requires holds { IsHolding self.old }

@@ -92,10 +92,13 @@ pub spares_kept : (qs : List Queue) (v : QueueLists) (at : ℕ) (was now : Queue
 spares_kept qs v at was now is lt w e =
     map-set spare_of qs at now ∙ set_same (map spare_of qs) at now.spare (e ∙ sym (spare_here qs at was lt w)) ∙ ap (λ (u : QueueLists). u.spares) is
 
-pub spares_spent : (qs : List Queue) (v : QueueLists) (at : ℕ) (was now : Queue) → record { lists = map list_of qs; spares = map spare_of qs } ≡ v → at < length qs → was ≡ get_or qs at was → now.spare + 1 ≡ was.spare → map spare_of (set qs at now) ≡ set v.spares at (spare_at v.spares at - 1)
-spares_spent qs v at was now is lt w e =
+pub spares_narrowed : (qs : List Queue) (v : QueueLists) (at : ℕ) (was now : Queue) → record { lists = map list_of qs; spares = map spare_of qs } ≡ v → at < length qs → was ≡ get_or qs at was → now.spare ≡ was.spare - 1 → map spare_of (set qs at now) ≡ set v.spares at (spare_at v.spares at - 1)
+spares_narrowed qs v at was now is lt w e =
     let here : spare_at v.spares at ≡ was.spare = ap (λ (u : QueueLists). spare_at u.spares at) (sym is) ∙ spare_here qs at was lt w in
     map-set spare_of qs at now ∙ ap (λ (u : QueueLists). set u.spares at now.spare) is ∙ ap (set v.spares at) (let f : now.spare ≡ spare_at v.spares at - 1 = omega arith in f)
+
+pub spares_spent : (qs : List Queue) (v : QueueLists) (at : ℕ) (was now : Queue) → record { lists = map list_of qs; spares = map spare_of qs } ≡ v → at < length qs → was ≡ get_or qs at was → now.spare + 1 ≡ was.spare → map spare_of (set qs at now) ≡ set v.spares at (spare_at v.spares at - 1)
+spares_spent qs v at was now is lt w e = spares_narrowed qs v at was now is lt w (omega arith)
 
 -- NUMBERS STAY BELOW
 

@@ -1,5 +1,5 @@
 // A node's queue.
-ghost use Rattle.std.specs.Prelude.{◌≡◌, ◌+◌, ◌<◌, ◌≤◌, ◌++◌, ◌∷◌, [], map, filter, set, Some, None, OnOk, OnErr, IfOk, IfErr, MatchOption};
+ghost use Rattle.std.specs.Prelude.{◌≡◌, ◌+◌, ◌-◌, ◌<◌, ◌≤◌, ◌++◌, ◌∷◌, [], map, filter, set, Some, None, OnOk, OnErr, IfOk, IfErr, MatchOption};
 ghost use Rattle.std.specs.VecDeque.{deque_len, deque_capacity};
 ghost use Rattle.ng_queue.specs.Places.{IsHeadAt};
 ghost use Rattle.ng_queue.specs.Queue.{empty_queue, head, hold_of, take_out, put_back, is_other, mark_of, waiting_items, AllWait, IsBelow, IsOutAs, IsOut};
@@ -122,6 +122,14 @@ impl NodeQueue {
         self.purged.reserve(self.entries.len() + more)?;
         self.spare = more;
         Ok(())
+    }
+
+    /// Gives back room for one item, where there is some. It takes no memory.
+    pub fn narrow(&mut self)
+        ensures entries { self.new.entries ≡ self.old.entries }
+        ensures spare { self.new.spare ≡ self.old.spare - 1 }
+    {
+        self.spare = self.spare.saturating_sub(1);
     }
 
     /// Adds an item behind all others. There is room for it, and its number is above all in the queue. It takes no

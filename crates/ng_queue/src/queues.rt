@@ -102,6 +102,15 @@ impl Queues {
         self.queues[at].widen()
     }
 
+    /// Gives back room for one item at this node, where there is some. It takes no memory.
+    pub fn narrow(&mut self, at: usize)
+        requires { at < length self.old.lists }
+        ensures lists { self.new.lists ≡ self.old.lists }
+        ensures spares { self.new.spares ≡ set self.old.spares at (spare_at self.old.spares at - 1) }
+    {
+        self.queues[at].narrow();
+    }
+
     /// Adds an item behind all others at this node, where there is room for it. Its number is above all there, and is
     /// not the greatest of 64 bits. It takes no memory.
     pub fn push(&mut self, at: usize, item: Item)

@@ -1,12 +1,12 @@
 // Items are accepted, and packets are sent.
-ghost use Rattle.std.specs.Prelude.{◌≡◌, ℕ, ◌+◌, ◌-◌, ◌<◌, ◌≤◌, slice_set, length, Some, OnOk};
+ghost use Rattle.std.specs.Prelude.{◌≡◌, ◌==◌, ℕ, ◌+◌, ◌-◌, ◌<◌, ◌≤◌, slice_set, length, Some, OnOk};
 ghost use Rattle.ng_machine.specs.Change.{accept, arrival, change_all, lose, post, send_joined};
 ghost use Rattle.ng_machine.specs.Effect.{counts_unless, is_fine};
 ghost use Rattle.ng_machine.specs.Run.{RunState};
 ghost use Rattle.ng_machine.specs.World.{NodeRecord, hook_at, kind_at, node_at, node_in};
 ghost use Rattle.std.specs.Option.{option_copied};
 ghost use Rattle.ng_pending.specs.Holds.{IsOutIn, done_from, in_world};
-ghost use Rattle.ng_pending.specs.Room.{HasRoom, Spends};
+ghost use Rattle.ng_pending.specs.Room.{HasRoom, Spends, Uses};
 ghost use Rattle.ng_queue.specs.Queues.{spare_at};
 ghost use Rattle.ng_tally.specs.Tally.{HasNumbers};
 ghost use Rattle.ng_tie.specs.TieLaws.{one};
@@ -31,13 +31,6 @@ fn arrival(hook: Hook, packet: Packet) -> Body
 }
 
 impl<B: Node> State<B> {
-    // The hook of that name at the node of that number, where both are there. It is looked for near a place first.
-    fn hook(&self, id: NodeId, name: &Name, near: usize) -> Option<Hook>
-        ensures { result ≡ hook_at (node_in self.now.graph.nodes id) name.now }
-    {
-        self.graph.peer_near(id, name, near).copied()
-    }
-
     /// An item is accepted at a node that is there: it gets the next number and its mode, and stands last.
     pub fn accept(&mut self, to: NodeId, kind: Kind, body: Body, tag: Option<u32>, stamp: Stamp)
         requires there { (a : RunState) × Stands self.old a × ((node : NodeRecord) × (node_at a.world to ≡ Some node)) }
@@ -64,27 +57,56 @@ impl<B: Node> State<B> {
         self.pending.lose(cause);
     }
 
+    // Room that was made for an item at a node is given back, where the node has a queue.
+    fn forgo(&mut self, to: NodeId)
+        ensures stands { (a : RunState) → Stands self.old a → Stands self.new a }
+        ensures used { Uses (λ n. one (to.0 == n)) self.old.pending self.new.pending }
+        ensures spares { Spends (λ n. one (to.0 == n)) self.old.pending self.new.pending }
+        ensures graph { self.new.graph ≡ self.old.graph }
+        ensures lists { self.new.pending.queues.lists ≡ self.old.pending.queues.lists }
+        ensures tally { self.new.pending.tally ≡ self.old.pending.tally }
+    {
+        if (to.0 as usize) < self.pending.queues.len() {
+            self.pending.narrow(to);
+        }
+    }
+
+    // A packet that is sent to a node is lost for this cause: the room that was made for it there is given back.
+    fn lose_sent(&mut self, to: NodeId, cause: Cause)
+        requires { HasNumbers 1 self.old.pending.tally }
+        ensures stands { (a : RunState) → Stands self.old a → Stands self.new (in_world a (lose cause a.world)) }
+        ensures used { Uses (λ n. one (to.0 == n)) self.old.pending self.new.pending }
+        ensures spares { Spends (λ n. one (to.0 == n)) self.old.pending self.new.pending }
+        ensures graph { self.new.graph ≡ self.old.graph }
+        ensures lists { length self.new.pending.queues.lists ≡ length self.old.pending.queues.lists }
+        ensures numbers { (k : ℕ) → HasNumbers (k + 1) self.old.pending.tally → HasNumbers k self.new.pending.tally }
+    {
+        self.forgo(to);
+        self.lose(cause);
+    }
+
     // A packet is sent out of a hook: the first cause that holds loses it, or it waits at the peer.
     fn send(&mut self, hook: Hook, packet: Packet, stamp: Stamp)
         requires standing { IsStanding self.old }
         requires room { HasRoom (λ n. one (goes_to (Some hook) n)) self.old.pending }
         requires numbers { HasNumbers 1 self.old.pending.tally }
         ensures spares { Spends (λ n. one (goes_to (Some hook) n)) self.old.pending self.new.pending }
+        ensures used { Uses (λ n. one (goes_to (Some hook) n)) self.old.pending self.new.pending }
         ensures stands { (a : RunState) → Stands self.old a → Stands self.new (in_world a (send_joined a.world hook hook.joined packet stamp)) }
         ensures graph { self.new.graph ≡ self.old.graph }
         ensures lists { length self.new.pending.queues.lists ≡ length self.old.pending.queues.lists }
         ensures numbers { (k : ℕ) → HasNumbers (k + 1) self.old.pending.tally → HasNumbers k self.new.pending.tally }
     {
         if !hook.joined {
-            self.lose(Cause::NoPeer);
+            self.lose_sent(hook.peer.node, Cause::NoPeer);
             return;
         }
         let Some(kind) = self.graph.kind(hook.peer.node) else {
-            self.lose(Cause::NodeGone);
+            self.lose_sent(hook.peer.node, Cause::NodeGone);
             return;
         };
         if self.pending.is_full() {
-            self.lose(Cause::Full);
+            self.lose_sent(hook.peer.node, Cause::Full);
             return;
         }
         self.accept(hook.peer.node, kind, arrival(hook, packet), None, stamp);
@@ -97,13 +119,17 @@ impl<B: Node> State<B> {
         requires room { HasRoom (λ n. one (goes_to (hook_at (node_in self.old.graph.nodes from) hook.now) n)) self.old.pending }
         requires numbers { HasNumbers 1 self.old.pending.tally }
         ensures spares { Spends (λ n. one (goes_to (hook_at (node_in self.old.graph.nodes from) hook.now) n)) self.old.pending self.new.pending }
+        ensures used { Uses (λ n. one (goes_to (hook_at (node_in self.old.graph.nodes from) hook.now) n)) self.old.pending self.new.pending }
         ensures stands { (a : RunState) → Stands self.old a → Stands self.new (in_world a (post a.world from hook.now packet stamp)) }
         ensures graph { self.new.graph ≡ self.old.graph }
         ensures lists { length self.new.pending.queues.lists ≡ length self.old.pending.queues.lists }
         ensures numbers { (k : ℕ) → HasNumbers (k + 1) self.old.pending.tally → HasNumbers k self.new.pending.tally }
     {
-        match self.hook(from, hook, near) {
-            Some(hook) => self.send(hook, packet, stamp),
+        match self.graph.peer_near(from, hook, near) {
+            Some(hook) => {
+                let hook = *hook;
+                self.send(hook, packet, stamp);
+            }
             None => self.lose(Cause::NoPeer),
         }
     }
@@ -148,12 +174,13 @@ impl<B: Node> State<B> {
         ensures graph { self.new.graph ≡ self.old.graph }
         ensures tally { self.new.pending.tally ≡ self.old.pending.tally }
     {
-        let Some(hook) = self.hook(from, name, near) else {
+        let Some(hook) = self.graph.peer_near(from, name, near) else {
             return Ok(());
         };
-        if hook.peer.node.0 as usize >= self.pending.queues.len() {
+        let to = hook.peer.node;
+        if to.0 as usize >= self.pending.queues.len() {
             return Ok(());
         }
-        self.pending.widen(hook.peer.node)
+        self.pending.widen(to)
     }
 }

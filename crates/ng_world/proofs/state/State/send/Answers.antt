@@ -1,10 +1,10 @@
-use Rattle.std.proofs.Common.{◌≡◌, ◌∙◌, true, not, sym, ap, subst, arith}
+use Rattle.std.proofs.Common.{◌≡◌, ◌∙◌, true, false, not, sym, ap, subst, arith}
 use Rattle.std.specs.Prelude.{nat_lt}
 use Rattle.ng_machine.specs.Change.{frames, most_frames}
 use Rattle.ng_machine.specs.World.{World}
 use Rattle.ng_pending.specs.Holds.{in_world}
 use Rattle.ng_world.specs.Stands.{Stands}
-use Rattle.ng_world.proofs.SentItems.{kind_node, send_accepts}
+use Rattle.ng_world.proofs.SentItems.{kind_node, no_node, send_accepts, send_full, send_gone}
 use Rattle.ng_world.proofs.state.State.send.Goals as goal
 
 pub returns-clause-stands : goal.returns-clause-stands
@@ -19,3 +19,16 @@ pub accept-requires-clause-there : goal.accept-requires-clause-there
 accept-requires-clause-there g c κs within =
     let k = kind_node c.args.self.now.graph.nodes c.requires.standing.0.world.nodes c.args.hook.peer.node c.in-Some.kind c.requires.standing.1.graph.nodes (sym c.kind.ensures ∙ c.in-Some.is) in
     (c.requires.standing.0, c.requires.standing.1, (k.node, k.is))
+
+pub returns-in_default-clause-stands : goal.returns-in_default-clause-stands
+returns-in_default-clause-stands g c = λ a S.
+    let joined : c.args.hook.joined ≡ true = grind (arith, c.if-not-hook.false) in
+    let none = no_node c.args.self.now.graph.nodes a.world.nodes c.args.hook.peer.node S.graph.nodes (sym c.kind.ensures ∙ c.in_default.is) in
+    subst (λ (w : World). Stands c.lose_sent-in_default.new.self (in_world a w)) (send_gone a.world c.args.hook c.args.packet c.args.stamp joined none) (c.lose_sent-in_default.ensures.stands a S)
+
+pub returns-then-is_full-clause-stands : goal.returns-then-is_full-clause-stands
+returns-then-is_full-clause-stands g c = λ a S.
+    let k = kind_node c.args.self.now.graph.nodes a.world.nodes c.args.hook.peer.node c.in-Some.kind S.graph.nodes (sym c.kind.ensures ∙ c.in-Some.is) in
+    let full : nat_lt (frames a.world) most_frames ≡ false = c.is_full.ensures a S.items ∙ ap not c.if-is_full.true in
+    let joined : c.args.hook.joined ≡ true = grind (arith, c.if-not-hook.false) in
+    subst (λ (w : World). Stands c.lose_sent-then-is_full.new.self (in_world a w)) (send_full a.world c.args.hook k.node c.args.packet c.args.stamp joined k.is full) (c.lose_sent-then-is_full.ensures.stands a S)
