@@ -12,6 +12,7 @@ use crate::operation::Operation;
 use crate::validity::{Fault, find_fault};
 use std::alloc::{AllocError, Global};
 use std::marker::Model;
+use std::sync::Arc;
 use thiserror::Error;
 
 /// Why there is no program.
@@ -25,24 +26,32 @@ pub enum BadProgram {
     NoMemory,
 }
 
-/// A valid program, which contracts see as the list of its instructions. Only `validate` and `clone` make one.
+// The instructions of a program, and each as it is run.
 #[derive(Debug, Drop)]
-pub struct Program {
+struct Parts {
     insns: Vec<Insn>,
     operations: Vec<Operation>,
 }
 
+/// A valid program, which contracts see as the list of its instructions. Only `validate` and `clone` make one.
+#[derive(Debug, Drop)]
+pub struct Program {
+    // A clone shares it.
+    parts: Arc<Parts>,
+}
+
 impl Model for Program {
     ghost use Rattle.std.specs.Prelude.{List};
+    ghost use Rattle.std.specs.Arc.{arc_value};
     ghost use Rattle.ng_bpf_vm.specs.Reading.{AreRead};
     ghost use Rattle.ng_bpf_vm.specs.Validity.{IsValid};
     ghost use Rattle.ng_bpf_vm.specs.declared.instruction.Insn.{Insn};
 
     ghost Value = { List Insn };
 
-    ghost view = { λ p. p.insns.items };
+    ghost view = { λ p. (arc_value p.parts).insns.items };
 
-    ghost invariant = { λ p. IsValid p.insns.items × AreRead p.insns.items p.operations.items };
+    ghost invariant = { λ p. IsValid (arc_value p.parts).insns.items × AreRead (arc_value p.parts).insns.items (arc_value p.parts).operations.items };
 }
 
 impl Program {
@@ -50,7 +59,7 @@ impl Program {
     pub fn insns(&self) -> &[Insn]
         ensures { result.now ≡ self.now }
     {
-        self.insns.as_slice()
+        self.parts.insns.as_slice()
     }
 }
 
@@ -58,10 +67,8 @@ impl Clone for Program {
     ghost is_clone = { λ program copy. copy ≡ program };
 
     fn clone(&self) -> Result<Self, AllocError> {
-        let alloc = *self.insns.allocator();
         Ok(Program {
-            insns: Vec::from_slice(alloc, &self.insns)?,
-            operations: Vec::from_slice(alloc, &self.operations)?,
+            parts: Arc::try_clone(&self.parts)?,
         })
     }
 }
@@ -93,7 +100,7 @@ pub fn run(program: &Program, packet: &[u8]) -> u32
     ensures answers { outcome program.now packet.now ≡ Some result }
     ensures value { result ≡ answer_of program.now packet.now }
 {
-    let operations = program.operations.as_slice();
+    let operations = program.parts.operations.as_slice();
     let mut registers = Registers::new();
     let mut at = 0;
     loop {
@@ -109,9 +116,12 @@ fn with_operations(alloc: Global, insns: &[Insn]) -> Result<Program, AllocError>
     requires { IsValid insns.now }
     ensures { IfOk result (λ program. program ≡ insns.now) }
 {
-    Ok(Program {
+    let parts = Parts {
         operations: read_all(alloc, insns)?,
         insns: Vec::from_slice(alloc, insns)?,
+    };
+    Ok(Program {
+        parts: Arc::new(alloc, parts)?,
     })
 }
 

@@ -6,8 +6,8 @@ use ng_base::{Name, Names, NoMemory};
 use std::alloc::Global;
 use std::marker::Model;
 
-/// The names of a node's hooks. One is looked for by halves, so it takes no longer where a node has thousands of them.
-/// A contract sees the names in their order.
+/// The names of a node's hooks. One is looked for by halves, in a time of the logarithm of how many there are. A contract
+/// sees the names in their order.
 #[derive(Drop)]
 pub struct Hooks {
     names: Names,

@@ -7,7 +7,7 @@ use std::alloc::Global;
 use std::marker::Model;
 
 /// The names of a node's hooks, in the order in which they were made. An index of them tells whether there is a hook of a
-/// name, so that takes no longer where there are thousands.
+/// name, in a time of the logarithm of how many there are.
 ///
 /// A contract sees the names, and for how many more there is memory. A type whose hook brings more than its
 /// name reserves memory for all of it first, and then adds what cannot fail.

@@ -5,7 +5,7 @@ use Rattle.ng_bpf_vm.proofs.program.run.Goals as goal
 
 pub loop-over-init : goal.loop-over-init
 loop-over-init c =
-    rw (c.new-registers.ensures, c.as_slice-operations.ensures.value, ← c.program.view_is)
+    rw (c.new-registers.ensures, c.as_slice-operations.ensures.value, c.deref.ensures, ← c.program.view_is)
     (running_first _ _ _ c.program.invariant.0 c.program.invariant.1)
 
 pub step-requires : goal.step-requires
