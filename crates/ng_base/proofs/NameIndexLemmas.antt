@@ -1,5 +1,5 @@
--- Names in order: what a binary search finds, what an edit keeps, and an index of a list.
-use Rattle.std.proofs.Common.{◌≡◌, ℕ, zero, suc, ◌+◌, ◌-◌, ◌<◌, ◌≤◌, ltb, Bool, true, false, not, ◌&&◌, ◌||◌, List, [], ◌∷◌, ◌++◌, length, get_or, AllPairs, HoldsAt, Result, Ok, Err, is_ok, Equal, nat_cmp, is_lt, is_eq, insert, remove, bytes_eq, refl, sym, ap, ap₂, ◌∙◌, inl, inr, arith, zero-le, ltb-true, ltb-false}
+-- Names in order: what a binary search finds, and what an edit keeps.
+use Rattle.std.proofs.Common.{◌≡◌, ℕ, zero, suc, ◌+◌, ◌-◌, ◌<◌, ◌≤◌, ltb, Bool, true, false, ◌||◌, List, [], ◌∷◌, length, get_or, AllPairs, HoldsAt, Result, Ok, Err, is_ok, Equal, nat_cmp, is_lt, is_eq, insert, remove, bytes_eq, refl, sym, ap, ap₂, ◌∙◌, inl, inr, arith, zero-le, ltb-true, ltb-false}
 use Rattle.std.specs.Cmp.Lexicographic.{slice_cmp, texts_ties}
 use Rattle.std.specs.List.{list_any}
 use Rattle.std.specs.List.Sorted.{IsSearchInRange, IsBinarySearchResult, IsNonDecreasingBy}
@@ -9,9 +9,8 @@ use Rattle.std.proofs.lemmas.Cmp.{nat_list_cmp_total}
 use Rattle.std.proofs.lemmas.List.Edits.{length-insert, get_or-insert_below, get_or-insert_at, get_or-insert_above}
 use Rattle.std.proofs.lemmas.List.Quantifiers.{all_pairs_remove}
 use Rattle.std.proofs.lemmas.List.Sorted.{ranks_by, searchable_from_sorted, sorted_far}
-use Rattle.ng_base.proofs.NameLemmas.{is_same}
-use Rattle.ng_base.specs.NameIndex.{IsInOrder, IsIndexOf, HasOneMore, LacksOne}
-use Rattle.ng_base.specs.Names.{has_name, without_name}
+use Rattle.ng_base.specs.NameIndex.{IsInOrder}
+use Rattle.ng_base.specs.Names.{has_name}
 
 -- ---- what one test finds in a list
 
@@ -39,12 +38,6 @@ any_inserted : {X : Type 0} (test : X → Bool) (xs : List X) (at : ℕ) (x : X)
 any_inserted test xs zero x = refl
 any_inserted test [] (suc at) x = refl
 any_inserted test (y ∷ xs) (suc at) x = ap (λ b. test y || b) (any_inserted test xs at x) ∙ either_first (test y) (test x) (list_any test xs)
-
-any_removed : {X : Type 0} (test : X → Bool) (xs : List X) (at : ℕ) (d : X) → at < length xs → test (get_or xs at d) ≡ false
-    → list_any test (remove xs at) ≡ list_any test xs
-any_removed test [] at d below e = absurd (omega arith)
-any_removed test (x ∷ xs) zero d below e = let fails : test x ≡ false = e in rw fails refl
-any_removed test (x ∷ xs) (suc at) d below e = ap (λ b. test x || b) (any_removed test xs at d (omega arith) e)
 
 -- ---- what a binary search finds
 
@@ -123,7 +116,8 @@ ordered_between names at name up within parted =
     = λ k d same below. ap is_lt (parts.1 k d (omega arith) below) in
     ordered_insert names at name up within before behind
 
-pub more_inserted : (names : List (List ℕ)) (at : ℕ) (name : List ℕ) → HasOneMore names name (insert names at name)
+pub more_inserted : (names : List (List ℕ)) (at : ℕ) (name other : List ℕ)
+    → has_name (insert names at name) other ≡ (bytes_eq name other || has_name names other)
 more_inserted names at name other = any_inserted (λ one. bytes_eq one other) names at name
 
 -- ---- a name that is taken out
@@ -133,68 +127,3 @@ ordered_remove names at up within k d low below =
     let pairs : AllPairs (λ a b. is_below b a ≡ false) names
     = λ i j e less under. sorted_far is_below (ranks_by nat_list_cmp_total (λ one. one)) names up i j e (omega arith) under in
     all_pairs_remove (λ a b. is_below b a ≡ false) names at within pairs k (k + 1) d (omega arith) below
-
--- what is left of names from which only this one was taken out
-pub record IsRest (names : List (List ℕ)) (name : List ℕ) (left : List (List ℕ)) : Type 0 where
-  pub in_order : IsInOrder left
-  pub others : (other : List ℕ) → bytes_eq name other ≡ false → has_name left other ≡ has_name names other
-
-pub rest_at_first : (names : List (List ℕ)) (name : List ℕ) → IsInOrder names → IsRest names name names
-rest_at_first names name up = record { in_order = up; others = λ other apart. refl }
-
-pub rest_removed : (names : List (List ℕ)) (name : List ℕ) (left : List (List ℕ)) (at : ℕ) → IsRest names name left → at < length left
-    → HoldsAt (λ other. slice_cmp nat_cmp other name ≡ Equal) left at → IsRest names name (remove left at)
-rest_removed names name left at rest within equal =
-    let is : get_or left at [] ≡ name = is_same (get_or left at []) name (texts_ties (get_or left at []) name ∙ ap is_eq (equal [])) in
-    record {
-      in_order = ordered_remove left at rest.in_order within;
-      others = λ other apart.
-          any_removed (λ one. bytes_eq one other) left at [] within (ap (λ (one : List ℕ). bytes_eq one other) is ∙ apart) ∙ rest.others other apart;
-    }
-
-pub rest_lacks : (names : List (List ℕ)) (name : List ℕ) (left : List (List ℕ)) → IsRest names name left → has_name left name ≡ false
-    → LacksOne names name left
-rest_lacks names name left rest lacks other = elim (cases_Bool (bytes_eq name other)) [
-  | inl is ↦ rw is (ap (λ (one : List ℕ). has_name left one) (sym (is_same name other is)) ∙ lacks)
-  | inr apart ↦ rw apart (rest.others other apart)
-]
-
--- ---- an index of a list
-
-any_pushed : {X : Type 0} (test : X → Bool) (xs : List X) (x : X) → list_any test (xs ++ x ∷ []) ≡ (test x || list_any test xs)
-any_pushed test [] x = refl
-any_pushed test (y ∷ xs) x = ap (λ b. test y || b) (any_pushed test xs x) ∙ either_first (test y) (test x) (list_any test xs)
-
-pub index_added : (items index : List (List ℕ)) (name : List ℕ) (more : List (List ℕ)) → IsIndexOf items index → HasOneMore index name more
-    → IsIndexOf (items ++ name ∷ []) more
-index_added items index name more same added other =
-    added other ∙ ap (λ b. bytes_eq name other || b) (same other) ∙ sym (any_pushed (λ one. bytes_eq one other) items name)
-
-passed_over : (a b : Bool) → (not a && b) ≡ (not a && (a || b))
-passed_over true b = refl
-passed_over false b = refl
-
-has_without : (items : List (List ℕ)) (name other : List ℕ)
-    → has_name (without_name items name) other ≡ (not (bytes_eq name other) && has_name items other)
-has_without [] name other = elim (cases_Bool (bytes_eq name other)) [ inl is ↦ rw is refl | inr apart ↦ rw apart refl ]
-has_without (one ∷ items) name other = elim (cases_Bool (bytes_eq one name)) [
-  | inl gone ↦
-      rw gone (has_without items name other
-      ∙ passed_over (bytes_eq name other) (has_name items other)
-      ∙ ap (λ (n : List ℕ). not (bytes_eq name other) && (bytes_eq n other || has_name items other)) (sym (is_same one name gone)))
-  | inr stays ↦ rw stays (elim (cases_Bool (bytes_eq name other)) [
-    | inl is ↦
-        let apart : bytes_eq one other ≡ false = ap (λ (n : List ℕ). bytes_eq one n) (sym (is_same name other is)) ∙ stays in
-        let none : has_name (without_name items name) other ≡ false = has_without items name other ∙ ap (λ b. not b && has_name items other) is in
-        rw (is, apart) none
-    | inr apart ↦
-        let same : has_name (without_name items name) other ≡ has_name items other
-        = has_without items name other ∙ ap (λ b. not b && has_name items other) apart in
-        rw (apart, same) refl
-  ])
-]
-
-pub index_removed : (items index : List (List ℕ)) (name : List ℕ) (fewer : List (List ℕ)) → IsIndexOf items index → LacksOne index name fewer
-    → IsIndexOf (without_name items name) fewer
-index_removed items index name fewer same lacks other =
-    lacks other ∙ ap (λ b. not (bytes_eq name other) && b) (same other) ∙ sym (has_without items name other)

@@ -1,28 +1,35 @@
--- Names in order of their bytes, so that one is found by binary search, and what an edit leaves of them.
-use Rattle.std.specs.Prelude.{◌≡◌, ℕ, not, ◌&&◌, ◌||◌, List}
+-- Names in order of their bytes, so that one is found by binary search, each with a number.
+use Rattle.std.specs.Prelude.{◌≡◌, ℕ, ◌+◌, ◌&&◌, ◌==◌, if◌then◌else◌, List, [], ◌∷◌, length}
 use Rattle.std.specs.Cmp.Lexicographic.{slice_cmp}
 use Rattle.std.specs.List.Sorted.{IsSorted}
 use Rattle.std.specs.Ordering.{nat_cmp}
 use Rattle.std.specs.Str.{bytes_eq}
-use Rattle.ng_base.specs.Names.{has_name}
 
--- the names, and for how many more there is memory
+-- the names, the number of each, and for how many more there is memory
 pub record Index : Type 0 where
   pub names : List (List ℕ)
+  pub numbers : List ℕ
   pub room : ℕ
 
 -- no name is below the one before it; the same name may stand there more than once
 abbrev pub IsInOrder : List (List ℕ) → Type 0
 IsInOrder names = IsSorted (slice_cmp nat_cmp) names
 
--- a name is in the index exactly where it is in the list
-abbrev pub IsIndexOf : List (List ℕ) → List (List ℕ) → Type 0
-IsIndexOf items index = (other : List ℕ) → has_name index other ≡ has_name items other
+-- 1 where a name and its number are these, and 0 otherwise
+abbrev pub one_if : List ℕ → ℕ → List ℕ → ℕ → ℕ
+one_if first n name number = if bytes_eq first name && n == number then 1 else 0
 
--- of the names, those and the new one
-abbrev pub HasOneMore : List (List ℕ) → List ℕ → List (List ℕ) → Type 0
-HasOneMore names name more = (other : List ℕ) → has_name more other ≡ (bytes_eq name other || has_name names other)
+-- how often a name stands with this number, where each name's number stands at the name's place
+abbrev pub times : List (List ℕ) → List ℕ → List ℕ → ℕ → ℕ
+times [] numbers name number = 0
+times (first ∷ names) [] name number = 0
+times (first ∷ names) (n ∷ numbers) name number = one_if first n name number + times names numbers name number
 
--- of the names, all but the one that is gone
-abbrev pub LacksOne : List (List ℕ) → List ℕ → List (List ℕ) → Type 0
-LacksOne names name fewer = (other : List ℕ) → has_name fewer other ≡ (not (bytes_eq name other) && has_name names other)
+-- there is a number for each name
+abbrev pub IsNumbered : Index → Type 0
+IsNumbered index = length index.names ≡ length index.numbers
+
+-- the second has the name with this number once more, and all else as often
+abbrev pub HasOneMore : Index → List ℕ → ℕ → Index → Type 0
+HasOneMore fewer name number more = (other : List ℕ) (n : ℕ)
+    → times more.names more.numbers other n ≡ one_if name number other n + times fewer.names fewer.numbers other n

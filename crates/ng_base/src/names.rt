@@ -1,31 +1,26 @@
 // Lists of names.
 ghost use Rattle.std.specs.Prelude.{◌≡◌, [], ◌∷◌, ◌++◌, IfOk, OnOk, OnErr};
-ghost use Rattle.ng_base.specs.NameIndex.{IsIndexOf};
 ghost use Rattle.ng_base.specs.Names.{has_name, without_name};
 
-use crate::{Name, NameIndex, NoMemory};
+use crate::{Name, NameList, NoMemory};
 use std::alloc::Global;
 use std::marker::Model;
 
-/// Names in order, such as the hooks of a node in the order in which they were made. An index of them tells whether one is
-/// there, so that takes no longer where there are thousands.
+/// Names in order, such as the hooks of a node in the order in which they were made. Whether one is there is found in a time
+/// of the logarithm of how many there are, and none of them is gone over to take one out.
 ///
 /// A contract sees them as the list of their bytes.
 #[derive(Debug, Drop)]
 pub struct Names {
-    items: Vec<Name>,
-    index: NameIndex,
+    list: NameList,
 }
 
 impl Model for Names {
     ghost use Rattle.std.specs.Prelude.{ℕ, List};
-    ghost use Rattle.ng_base.specs.NameIndex.{IsIndexOf};
 
     ghost Value = { List (List ℕ) };
 
-    ghost view = { λ n. n.items.items };
-
-    ghost invariant = { λ n. IsIndexOf n.items.items n.index.names };
+    ghost view = { λ n. n.list.names };
 }
 
 impl Names {
@@ -34,45 +29,41 @@ impl Names {
         ensures { result ≡ [] }
     {
         Names {
-            items: Vec::new(alloc),
-            index: NameIndex::new(alloc),
+            list: NameList::new(alloc),
         }
     }
 
-    /// The names of a list, with an index that has exactly these.
-    pub fn with_index(items: Vec<Name>, index: NameIndex) -> Names
-        requires { IsIndexOf items.items index.names }
-        ensures { result ≡ items.items }
+    /// The names of a list, in its memory.
+    pub fn from_list(list: NameList) -> Names
+        ensures { result ≡ list.names }
     {
-        Names { items, index }
+        Names { list }
     }
 
     /// The names, to be looked at.
     pub fn as_slice(&self) -> &[Name]
         ensures { result.now ≡ self.now }
     {
-        self.items.as_slice()
+        self.list.as_slice()
     }
 
     /// Whether the name stands among them.
     pub fn has(&self, name: &Name) -> bool
         ensures { result ≡ has_name self.now name.now }
     {
-        self.index.has(name)
+        self.list.has(name)
     }
 
     /// Adds a name at the end.
     ///
     /// # Errors
-    /// `NoMemory` where memory ran out, and for nothing else; the names are then as before.
+    /// `NoMemory` where memory ran out, or where 2^64 - 1 names were added before; the names are then as before.
     pub fn push(&mut self, name: Name) -> Result<(), NoMemory>
         ensures ok { OnOk result (self.new ≡ self.old ++ name ∷ []) }
         ensures err { OnErr result (self.new ≡ self.old) }
     {
-        self.items.reserve(1)?;
-        self.index.reserve()?;
-        self.items.push_reserved(name);
-        self.index.add(name);
+        self.list.reserve()?;
+        self.list.add(name);
         Ok(())
     }
 
@@ -84,8 +75,7 @@ impl Names {
         ensures { IfOk result (λ names. names ≡ self.now) }
     {
         Ok(Names {
-            items: Vec::from_slice(alloc, &self.items)?,
-            index: self.index.again(alloc)?,
+            list: self.list.again(alloc)?,
         })
     }
 
@@ -93,7 +83,6 @@ impl Names {
     pub fn remove(&mut self, name: &Name)
         ensures { self.new ≡ without_name self.old name.now }
     {
-        self.items.retain(|other| *other != *name);
-        self.index.remove(name);
+        self.list.remove(name);
     }
 }

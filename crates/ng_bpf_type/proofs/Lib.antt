@@ -2,6 +2,6 @@ mod Reading
 mod Refusals
 mod Targets
 mod Lists
-mod Trees
+pub mod Places
 mod States
 mod Replies

@@ -6,6 +6,7 @@ ghost use Rattle.ng_machine.specs.Counters.{raise_at, row_bytes, zeros};
 
 use ng_base::{Name, NoMemory};
 use ng_bpf_vm::{Insn, Program, validate};
+use ng_lookup::Named;
 use ng_machine::BpfWay;
 use ng_message::{put_name, put_u16, put_u32, put_u64};
 use std::alloc::Global;
@@ -39,6 +40,15 @@ impl Model for Filter {
     ghost view = { λ f. record { way = f.way; counters = f.counters } };
 
     ghost invariant = { λ f. length f.way.program ≤ 512 };
+}
+
+/// What stands at a hook, by the hook.
+impl Named for Filter {
+    ghost name_of = { λ f. f.way.hook };
+
+    fn name(&self) -> Name {
+        self.way.hook
+    }
 }
 
 /// The program that matches no packet.

@@ -1,98 +1,49 @@
 // What a bpf node keeps of its hooks.
-ghost use Rattle.std.specs.Prelude.{◌≡◌, ◌≤◌, [], true, false, length, map, is_some, None, Some, IfOk, OnErr, OnOk};
+ghost use Rattle.std.specs.Prelude.{◌≡◌, ◌≤◌, [], false, length, map, IfOk, OnErr, OnOk};
 ghost use Rattle.std.specs.List.{find};
 ghost use Rattle.std.specs.Option.{option_copied};
-ghost use Rattle.ng_bpf_type.specs.Filters.{Changes, Puts, filter_at, hooks_of, under};
+ghost use Rattle.ng_bpf_type.specs.Filters.{hooks_of};
 ghost use Rattle.ng_machine.specs.Bpf.{at_filter, bpf_with_hook, bpf_without_hook, count_filter, has_filter, is_of_hook};
 ghost use Rattle.ng_machine.specs.Counters.{after_counts, raise_at, zeros};
 
 use crate::filter::Filter;
 use ng_base::{Name, NoMemory, Sequence};
+use ng_lookup::{NameMap, NameTable, Places, cut_place, find_named};
 use ng_machine::BpfWay;
-use ng_node::HookList;
 use std::alloc::Global;
-use std::collections::BTreeMap;
 use std::marker::Model;
 
-/// What stands at each hook, under its name.
-type Index = BTreeMap<Name, Filter>;
-
-/// The hooks of a bpf node with their programs and counters, in the order in which they were made.
+/// The hooks of a bpf node with their programs and counters, in the order in which they were made, and the place of each
+/// under its name.
 ///
-/// What stands at a hook is found in a tree, so a packet is counted in a time of the logarithm of how many there are.
+/// A hook is found by halves, so a packet is counted in a time of the logarithm of how many there are.
 #[derive(Drop)]
 pub struct Filters {
-    hooks: HookList,
-    index: Index,
+    filters: Vec<Filter>,
+    places: Places,
 }
 
 impl Model for Filters {
     ghost use Rattle.std.specs.Prelude.{List};
     ghost use Rattle.ng_machine.specs.Bpf as machine;
-    ghost use Rattle.ng_bpf_type.specs.Filters.{IsIndex, filters_at};
+    ghost use Rattle.ng_bpf_type.specs.Filters.{ArePlaced};
 
     ghost Value = { List machine.Filter };
 
-    ghost view = { λ s. filters_at s.hooks.names s.index };
+    ghost view = { λ s. s.filters.items };
 
-    ghost invariant = { λ s. IsIndex s.hooks.names s.index };
+    ghost invariant = { λ s. ArePlaced s.filters.items s.places };
 }
 
-/// Puts what stands at a hook under its name.
-#[tactic(auto, using(crate::proofs::Trees::puts))]
-fn insert_in(index: &mut Index, hook: &Name, filter: Filter) -> Result<(), NoMemory>
-    ensures ok { OnOk result (Puts index.old index.new hook.now (Some filter)) }
-    ensures err { OnErr result (index.new.entries ≡ index.old.entries) }
+/// A copy of the programs and the targets of hooks. Each program has one holder more.
+fn ways_of(alloc: Global, filters: &[Filter]) -> Result<Vec<BpfWay>, NoMemory>
+    ensures { IfOk result (λ ways. ways.items ≡ map (λ f. f.way) filters.now) }
 {
-    index.insert(*hook, filter)?;
-    Ok(())
-}
-
-/// Takes what stands at a hook out.
-#[tactic(auto, using(crate::proofs::Trees::puts))]
-fn remove_from(index: &mut Index, hook: &Name)
-    ensures { Puts index.old index.new hook.now None }
-{
-    let _filter = index.remove(hook);
-}
-
-/// Adds to a counter of a hook, where there is such a hook.
-fn count_in(index: &mut Index, hook: &Name, number: u64, amount: u64)
-    ensures { Changes index.old index.new hook.now (λ f. record f { counters = raise_at f.counters number amount }) }
-{
-    if let Some(filter) = index.get_mut(hook) {
-        filter.count(number, amount);
+    let mut ways = Vec::with_capacity(alloc, filters.len())?;
+    for filter in filters {
+        ways.push(filter.way()?)?;
     }
-}
-
-/// Sets the counters of a hook to 0, where there is such a hook.
-fn clear_in(index: &mut Index, hook: &Name)
-    ensures { Changes index.old index.new hook.now (λ f. record f { counters = zeros 6 }) }
-{
-    if let Some(filter) = index.get_mut(hook) {
-        filter.clear();
-    }
-}
-
-/// Sets the program and the targets of a hook, where there is such a hook.
-fn set_way_in(index: &mut Index, way: BpfWay)
-    requires { length way.program ≤ 512 }
-    ensures { Changes index.old index.new way.hook (λ f. record f { way = way }) }
-{
-    if let Some(filter) = index.get_mut(&way.hook) {
-        filter.set_way(way);
-    }
-}
-
-/// A copy of the program and the targets of a hook that is there.
-fn way_at(index: &Index, hook: &Name) -> Result<BpfWay, NoMemory>
-    requires { is_some (under index.now hook.now) ≡ true }
-    ensures { IfOk result (λ way. way ≡ (filter_at index.now hook.now).way) }
-{
-    match index.get(hook) {
-        Some(filter) => filter.way(),
-        None => unreachable!(),
-    }
+    Ok(ways)
 }
 
 impl Filters {
@@ -101,8 +52,8 @@ impl Filters {
         ensures { result ≡ [] }
     {
         Filters {
-            hooks: HookList::new(alloc),
-            index: BTreeMap::new(alloc),
+            filters: Vec::new(alloc),
+            places: NameMap::new(alloc),
         }
     }
 
@@ -110,28 +61,26 @@ impl Filters {
     pub fn find(&self, hook: &Name) -> Option<&Filter>
         ensures { option_copied result ≡ find (is_of_hook hook.now) self.now }
     {
-        self.index.get(hook)
+        find_named(&self.filters, &self.places, hook)
     }
 
     /// Whether there is a hook of this name.
     pub fn has(&self, hook: &Name) -> bool
         ensures { result ≡ has_filter self.now hook.now }
     {
-        self.index.contains_key(hook)
+        self.places.get(hook).is_some()
     }
 
-    /// What a plan holds of the hooks.
+    /// What a plan holds of the hooks, with their places.
     ///
     /// # Errors
     /// `NoMemory` where memory ran out, and for nothing else.
-    pub fn ways(&self, alloc: Global) -> Result<Sequence<BpfWay>, NoMemory>
+    pub fn ways(&self, alloc: Global) -> Result<NameTable<BpfWay>, NoMemory>
         ensures { IfOk result (λ ways. ways ≡ map (λ f. f.way) self.now) }
     {
-        let mut ways = Sequence::new(alloc);
-        for hook in self.hooks.as_slice() {
-            ways.push(way_at(&self.index, hook)?)?;
-        }
-        Ok(ways)
+        let ways = ways_of(alloc, &self.filters)?;
+        let places = self.places.again(alloc)?;
+        Ok(NameTable::with_places(Sequence::from_vec(ways), places))
     }
 
     /// Adds a hook of a new name at the end, as a new hook is.
@@ -144,9 +93,10 @@ impl Filters {
         ensures err { OnErr result (self.new ≡ self.old) }
     {
         let filter = Filter::new(alloc, hook)?;
-        self.hooks.reserve()?;
-        insert_in(&mut self.index, hook, filter)?;
-        self.hooks.add(*hook);
+        self.filters.reserve(1)?;
+        self.places.reserve()?;
+        self.places.put(*hook, self.filters.len());
+        self.filters.push_reserved(filter);
         Ok(())
     }
 
@@ -154,8 +104,10 @@ impl Filters {
     pub fn cut(&mut self, hook: &Name)
         ensures { self.new ≡ bpf_without_hook self.old hook.now }
     {
-        self.hooks.cut(hook);
-        remove_from(&mut self.index, hook);
+        if let Some(place) = self.places.get(hook) {
+            cut_place(&mut self.places, hook, place);
+            let _filter = self.filters.remove(place);
+        }
     }
 
     /// Sets the program and the targets of the hook that they are of. Where there is no such hook, nothing changes.
@@ -164,7 +116,9 @@ impl Filters {
         ensures set { self.new ≡ at_filter way.hook (λ f. record f { way = way }) self.old }
         ensures hooks { hooks_of self.new ≡ hooks_of self.old }
     {
-        set_way_in(&mut self.index, way);
+        if let Some(place) = self.places.get(&way.hook) {
+            self.filters[place].set_way(way);
+        }
     }
 
     /// Adds what was counted once to a counter of a hook.
@@ -172,7 +126,9 @@ impl Filters {
         ensures counted { self.new ≡ count_filter self.old (hook.now, number, amount) }
         ensures hooks { hooks_of self.new ≡ hooks_of self.old }
     {
-        count_in(&mut self.index, hook, number, amount);
+        if let Some(place) = self.places.get(hook) {
+            self.filters[place].count(number, amount);
+        }
     }
 
     /// Adds what was counted. What is of no hook and no counter is passed over.
@@ -190,6 +146,8 @@ impl Filters {
         ensures cleared { self.new ≡ at_filter hook.now (λ f. record f { counters = zeros 6 }) self.old }
         ensures hooks { hooks_of self.new ≡ hooks_of self.old }
     {
-        clear_in(&mut self.index, hook);
+        if let Some(place) = self.places.get(hook) {
+            self.filters[place].clear();
+        }
     }
 }

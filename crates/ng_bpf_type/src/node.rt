@@ -1,5 +1,6 @@
 // ng_bpf(4): each hook has a program that decides where the packets that come by it go.
 ghost use Rattle.std.specs.Prelude.{◌≡◌, map, IfOk};
+ghost use Rattle.std.specs.Arc.{arc_value};
 ghost use Rattle.ng_bpf_type.specs.State.{bpf_state};
 ghost use Rattle.ng_machine.specs.State.{blank_of};
 
@@ -35,13 +36,11 @@ impl Model for BpfNode {
 }
 
 impl BpfNode {
-    /// What its plan is made of.
-    fn way(&self, alloc: Global) -> Result<Way, NoMemory>
-        ensures { IfOk result (λ way. way ≡ Way.Bpf (map (λ f. f.way) self.now)) }
+    /// Its plan.
+    fn share(&self, alloc: Global) -> Result<Arc<Plan>, NoMemory>
+        ensures { IfOk result (λ plan. arc_value plan ≡ Way.Bpf (map (λ f. f.way) self.now)) }
     {
-        Ok(Way::Bpf {
-            hooks: self.filters.ways(alloc)?,
-        })
+        Plan::of_bpf(alloc, self.filters.ways(alloc)?)
     }
 }
 
@@ -71,7 +70,7 @@ impl Node for BpfNode {
     }
 
     fn plan(&self, alloc: Global) -> Result<Option<Arc<Plan>>, NoMemory> {
-        Ok(Some(Plan::share(alloc, self.way(alloc)?)?))
+        Ok(Some(self.share(alloc)?))
     }
 
     #[tactic(auto, using(crate::proofs::States::state_kept))]
@@ -87,7 +86,7 @@ impl Node for BpfNode {
     fn write(&mut self, alloc: Global, body: &Body) -> Result<Outcome, NoMemory> {
         match body {
             Body::Frame { door, packet, .. } => {
-                let plan = Plan::share(alloc, self.way(alloc)?)?;
+                let plan = self.share(alloc)?;
                 let outcome = eval(alloc, &plan, door, packet)?;
                 self.filters.absorb(outcome.counts.as_slice());
                 Ok(outcome)

@@ -1,5 +1,5 @@
 -- Hosts in order of their addresses.
-use Rattle.std.proofs.Common.{◌≡◌, ℕ, zero, suc, ◌+◌, ◌*◌, ◌/◌, ◌^◌, ◌<◌, ◌≤◌, nat_lt, ◌==◌, Bool, true, false, cond, List, [], ◌∷◌, length, set, slice_index, map, None, find, refl, sym, ap, ◌∙◌, arith, inl, inr, true≢false}
+use Rattle.std.proofs.Common.{◌≡◌, ℕ, zero, suc, ◌+◌, ◌*◌, ◌/◌, ◌^◌, ◌<◌, ◌≤◌, nat_lt, ◌==◌, not, Bool, true, false, cond, List, [], ◌∷◌, length, set, slice_index, map, None, find, Result, Ok, Err, OnOk, OnErr, refl, sym, ap, ◌∙◌, arith, inl, inr, true≢false}
 use Rattle.std.specs.List.{insert, filter}
 use Rattle.std.specs.Option.{option_map}
 use Rattle.std.specs.Str.{bytes_eq}
@@ -11,13 +11,19 @@ use Rattle.std.proofs.lemmas.List.Edits.{length-insert}
 use Rattle.byteorder.specs.Endian.{big_from, big_number}
 use Rattle.byteorder.specs.Numbers.{big_from-lt}
 use Rattle.ng_base.proofs.NameLemmas.{is_same, same_name}
+use Rattle.ng_lookup.specs.Table.{IsAscending}
 use Rattle.ng_machine.specs.declared.plan.BridgeConfig.{BridgeConfig}
-use Rattle.ng_machine.specs.Bridge.{Host, host_of, host_way, put_host, see_host, seen_number, age_host, rest_host, standing, standing_of, News}
+use Rattle.ng_machine.specs.declared.plan.BridgeHost.{BridgeHost}
+use Rattle.ng_machine.specs.Bridge.{Host, elsewhere, host_of, host_way, put_host, see_host, seen_number, age_host, rest_host, standing, standing_of, News}
 use Rattle.ng_machine.specs.Counters.{raise}
 use Rattle.ng_machine.specs.Words.{Every}
-use Rattle.ng_bridge_type.specs.Hosts.{IsAddress, address_of, AreHosts}
-use Rattle.ng_sorted.specs.Order.{IsGap, IsPlace}
-use Rattle.ng_sorted.proofs.InOrder.{next_gap, next_place, change_at, ordered_filter, ordered_map, ordered_insert, ordered_change}
+use Rattle.ng_bridge_type.specs.Hosts.{IsAddress, address_of, AreHosts, AreKept}
+use Rattle.ng_sorted.specs.Order.{IsAbove, IsInOrder, IsGap, IsPlace}
+use Rattle.ng_sorted.proofs.InOrder.{ordered_at, next_gap, next_place, change_at, ordered_filter, ordered_map, ordered_insert, ordered_change}
+
+-- by what a plan finds a host
+abbrev pub way_number : BridgeHost → ℕ
+way_number h = big_number 6 h.addr
 
 -- ---- addresses
 
@@ -177,6 +183,54 @@ hosts_insert hosts k x is at room are = record {
   addressed = every_insert (λ h. IsAddress h.addr) hosts k x at.in_range is are.addressed;
   few = omega (arith, length-insert hosts k x at.in_range, room);
 }
+
+-- ---- what a plan holds of hosts
+
+-- it is in order as they are
+way_above : (a : ℕ) (hosts : List Host) → IsAbove address_of a hosts → IsAbove way_number a (map host_way hosts)
+way_above a [] up = tt
+way_above a (h ∷ hosts) up = (up.0, way_above a hosts up.1)
+
+ways_in_order : (hosts : List Host) → IsInOrder address_of hosts → IsInOrder way_number (map host_way hosts)
+ways_in_order [] up = tt
+ways_in_order (h ∷ hosts) up = (way_above (address_of h) hosts up.0, ways_in_order hosts up.1)
+
+pub ways_ascend : (hosts : List Host) (ways : List BridgeHost) → IsInOrder address_of hosts → ways ≡ map host_way hosts → IsAscending way_number ways
+ways_ascend hosts ways up planned k d below = ordered_at way_number ways k (k + 1) d (rw planned (ways_in_order hosts up)) (omega arith) below
+
+-- a host that is put among them
+ways_insert : (hosts : List Host) (k : ℕ) (x : Host) → insert (map host_way hosts) k (host_way x) ≡ map host_way (insert hosts k x)
+ways_insert hosts zero x = refl
+ways_insert [] (suc k) x = refl
+ways_insert (h ∷ hosts) (suc k) x = ap (λ ways. host_way h ∷ ways) (ways_insert hosts k x)
+
+pub learned : {A E : Type 0} (r : Result A E) (hosts now : List Host) (ways then : List BridgeHost) (k : ℕ) (x : Host)
+    → OnOk r (now ≡ insert hosts k x) → OnOk r (then ≡ insert ways k (host_way x)) → OnErr r (now ≡ hosts) → OnErr r (then ≡ ways)
+    → AreHosts (insert hosts k x) → AreKept hosts ways → AreKept now then
+learned (Ok v) hosts now ways then k x host way hosts_stay ways_stay are kept = record {
+  known = rw host are;
+  planned = way ∙ ap (λ (ws : List BridgeHost). insert ws k (host_way x)) kept.planned ∙ ways_insert hosts k x ∙ ap (map host_way) (sym host);
+}
+learned (Err e) hosts now ways then k x host way hosts_stay ways_stay are kept = record {
+  known = rw hosts_stay kept.known;
+  planned = ways_stay ∙ kept.planned ∙ ap (map host_way) (sym hosts_stay);
+}
+
+-- hosts behind a link that are forgotten
+pub ways_elsewhere : (link : ℕ) (hosts : List Host) → filter (λ (w : BridgeHost). not (w.link == link)) (map host_way hosts) ≡ map host_way (elsewhere link hosts)
+ways_elsewhere link [] = refl
+ways_elsewhere link (h ∷ hosts) = elim (cases_Bool (h.link == link)) [
+  | inl is ↦ rw is (ways_elsewhere link hosts)
+  | inr other ↦ rw other (ap (λ ways. host_way h ∷ ways) (ways_elsewhere link hosts))
+]
+
+-- no plan holds how often a host was seen
+pub ways_seen : (number amount : ℕ) (hosts : List Host) → map host_way (map (see_host number amount) hosts) ≡ map host_way hosts
+ways_seen number amount [] = refl
+ways_seen number amount (h ∷ hosts) = elim (cases_Bool (seen_number h.addr == number)) [
+  | inl is ↦ rw is (ap (λ ways. host_way h ∷ ways) (ways_seen number amount hosts))
+  | inr other ↦ rw other (ap (λ ways. host_way h ∷ ways) (ways_seen number amount hosts))
+]
 
 pub older_keeps : (seconds : ℕ) (h : Host) → (age_host seconds (rest_host h)).addr ≡ h.addr
 older_keeps seconds h = elim (cases_Bool (nat_lt 0 h.seen)) [ inl is ↦ rw is refl | inr other ↦ rw other refl ]

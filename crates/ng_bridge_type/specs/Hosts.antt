@@ -1,7 +1,8 @@
 -- The hosts of a bridge: in order of their addresses, each of six bytes, and at most 4,096.
-use Rattle.std.specs.Prelude.{◌≡◌, ℕ, ◌<◌, ◌≤◌, List, length, slice_index}
+use Rattle.std.specs.Prelude.{◌≡◌, ℕ, ◌<◌, ◌≤◌, List, length, map, slice_index}
 use Rattle.byteorder.specs.Endian.{big_number}
-use Rattle.ng_machine.specs.Bridge.{Host, most_hosts}
+use Rattle.ng_machine.specs.declared.plan.BridgeHost.{BridgeHost}
+use Rattle.ng_machine.specs.Bridge.{Host, host_way, most_hosts}
 use Rattle.ng_machine.specs.Words.{Every}
 use Rattle.ng_sorted.specs.Order.{IsInOrder}
 
@@ -18,3 +19,8 @@ pub record AreHosts (hosts : List Host) : Type 0 where
   pub ordered : IsInOrder address_of hosts
   pub addressed : Every (λ h. IsAddress h.addr) hosts
   pub few : length hosts ≤ most_hosts
+
+-- hosts, and beside them in the same order what a plan holds of each
+pub record AreKept (hosts : List Host) (ways : List BridgeHost) : Type 0 where
+  pub known : AreHosts hosts
+  pub planned : ways ≡ map host_way hosts

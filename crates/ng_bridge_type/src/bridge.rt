@@ -4,7 +4,6 @@ ghost use Rattle.std.specs.List.{find};
 ghost use Rattle.std.specs.Option.{option_copied};
 ghost use Rattle.ng_machine.specs.Bridge.{blank_bridge, bridge_clear, bridge_learn, bridge_reset, loops, at_link, bridge_tick, bridge_with_hook, bridge_without_hook, count_bridge, has_number, host_way, link_number, link_way};
 ghost use Rattle.ng_machine.specs.Counters.{after_counts, zeros};
-ghost use Rattle.ng_machine.specs.declared.plan.Plan.TheVariants.{Bridge as bridge_way};
 
 use crate::host::SEEN;
 use crate::hosts::Hosts;
@@ -12,8 +11,8 @@ use crate::link::Link;
 use crate::links::Links;
 use crate::standing::{Standing, standing_on};
 use ng_base::{Name, NoMemory};
-use ng_lookup::address_number;
-use ng_plan::{BridgeConfig, Way, link_number};
+use ng_lookup::{NameTable, address_number};
+use ng_plan::{BridgeConfig, BridgePlan, link_number};
 use std::alloc::Global;
 use std::marker::Model;
 
@@ -87,12 +86,14 @@ impl Bridge {
     ///
     /// # Errors
     /// `NoMemory` where memory ran out, and for nothing else.
-    pub fn way(&self, alloc: Global) -> Result<Way, NoMemory>
-        ensures { IfOk result (λ way. way ≡ bridge_way self.now.config (map link_way (self.now).links) (map host_way (self.now).hosts)) }
+    pub fn plan(&self, alloc: Global) -> Result<BridgePlan, NoMemory>
+        ensures config { IfOk result (λ plan. plan.config ≡ self.now.config) }
+        ensures links { IfOk result (λ plan. plan.links ≡ map link_way (self.now).links) }
+        ensures hosts { IfOk result (λ plan. plan.hosts ≡ map host_way (self.now).hosts) }
     {
-        Ok(Way::Bridge {
+        Ok(BridgePlan {
             config: self.config,
-            links: self.links.ways(alloc)?,
+            links: NameTable::new(alloc, self.links.ways(alloc)?)?,
             hosts: self.hosts.ways(alloc)?,
         })
     }

@@ -1,5 +1,5 @@
 // The hosts that a bridge knows.
-ghost use Rattle.std.specs.Prelude.{◌≡◌, ◌++◌, ◌≤◌, [], length, map, nat_lt, ◌<◌, None, IfOk, OnErr, OnOk};
+ghost use Rattle.std.specs.Prelude.{◌≡◌, ◌++◌, ◌≤◌, [], length, map, nat_lt, ◌<◌, None, IfOk, OnErr, OnOk, vec_capacity};
 ghost use Rattle.std.specs.List.{filter, flat_map, insert};
 ghost use Rattle.std.specs.Option.{option_copied, option_map};
 ghost use Rattle.byteorder.specs.Endian.{big_number};
@@ -10,28 +10,31 @@ ghost use Rattle.ng_sorted.specs.Order.{IsInOrder};
 
 use crate::host::{Host, SEEN};
 use ng_base::{NoMemory, Sequence};
-use ng_lookup::address_number;
+use ng_lookup::{Table, address_number};
 use ng_plan::BridgeHost;
 use ng_sorted::place;
 use std::alloc::Global;
 use std::marker::Model;
 
 /// Hosts in order of their addresses.
+///
+/// Beside them stands what a plan holds of each, so that a plan is a copy of it.
 #[derive(Drop)]
 pub struct Hosts {
     hosts: Vec<Host>,
+    ways: Vec<BridgeHost>,
 }
 
 impl Model for Hosts {
     ghost use Rattle.std.specs.Prelude.{List};
     ghost use Rattle.ng_machine.specs.Bridge as machine;
-    ghost use Rattle.ng_bridge_type.specs.Hosts.{AreHosts};
+    ghost use Rattle.ng_bridge_type.specs.Hosts.{AreKept};
 
     ghost Value = { List machine.Host };
 
     ghost view = { λ s. s.hosts.items };
 
-    ghost invariant = { λ s. AreHosts s.hosts.items };
+    ghost invariant = { λ s. AreKept s.hosts.items s.ways.items };
 }
 
 impl Hosts {
@@ -41,6 +44,7 @@ impl Hosts {
     {
         Hosts {
             hosts: Vec::new(alloc),
+            ways: Vec::new(alloc),
         }
     }
 
@@ -62,18 +66,15 @@ impl Hosts {
         }
     }
 
-    /// What a plan holds of the hosts.
+    /// What a plan holds of the hosts, as a copy that looks at none of them.
     ///
     /// # Errors
     /// `NoMemory` where memory ran out, and for nothing else.
-    pub fn ways(&self, alloc: Global) -> Result<Sequence<BridgeHost>, NoMemory>
+    pub fn ways(&self, alloc: Global) -> Result<Table<BridgeHost>, NoMemory>
         ensures { IfOk result (λ ways. ways ≡ map host_way self.now) }
     {
-        let mut ways = Vec::with_capacity(alloc, self.hosts.len())?;
-        for host in &self.hosts {
-            ways.push_reserved(host.way());
-        }
-        Ok(Sequence::from_vec(ways))
+        let ways = Vec::from_slice(alloc, &self.ways)?;
+        Ok(Table::ascending(Sequence::from_vec(ways)))
     }
 
     /// Appends the hosts as rows of the table.
@@ -101,10 +102,12 @@ impl Hosts {
     {
         match place(&self.hosts, address_number(addr)) {
             Ok(at) => {
-                self.hosts[at] = Host::new(*addr, link);
+                let host = Host::new(*addr, link);
+                self.ways[at] = host.way();
+                self.hosts[at] = host;
                 Ok(())
             }
-            Err(at) => insert(&mut self.hosts, at, Host::new(*addr, link)),
+            Err(at) => insert(&mut self.hosts, &mut self.ways, at, Host::new(*addr, link)),
         }
     }
 
@@ -122,6 +125,7 @@ impl Hosts {
         ensures { self.new ≡ elsewhere link self.old }
     {
         self.hosts.retain(|host| host.link() != link);
+        self.ways.retain(|way| way.link != link);
     }
 
     /// Forgets all hosts.
@@ -129,6 +133,7 @@ impl Hosts {
         ensures { self.new ≡ [] }
     {
         self.hosts.clear();
+        self.ways.clear();
     }
 
     /// Lets so many seconds go by, and forgets the hosts that weren't seen for as long as the limit.
@@ -138,17 +143,41 @@ impl Hosts {
         grow_all_old(&mut self.hosts, seconds);
         self.hosts
             .retain(|host| u32::from(host.staleness()) < limit);
+        write_ways(&mut self.ways, &self.hosts);
     }
 }
 
-/// Adds a host at a place.
-fn insert(hosts: &mut Vec<Host>, at: usize, host: Host) -> Result<(), NoMemory>
-    requires { at ≤ length hosts.old.items }
-    ensures ok { OnOk result (hosts.new.items ≡ insert hosts.old.items at host) }
-    ensures err { OnErr result (hosts.new.items ≡ hosts.old.items) }
+/// Adds a host at a place, and what a plan holds of it.
+fn insert(
+    hosts: &mut Vec<Host>,
+    ways: &mut Vec<BridgeHost>,
+    at: usize,
+    host: Host,
+) -> Result<(), NoMemory>
+    requires in_hosts { at ≤ length hosts.old.items }
+    requires in_ways { at ≤ length ways.old.items }
+    ensures host { OnOk result (hosts.new.items ≡ insert hosts.old.items at host) }
+    ensures way { OnOk result (ways.new.items ≡ insert ways.old.items at (host_way host)) }
+    ensures hosts_stay { OnErr result (hosts.new.items ≡ hosts.old.items) }
+    ensures ways_stay { OnErr result (ways.new.items ≡ ways.old.items) }
 {
-    hosts.insert(at, host)?;
+    hosts.reserve(1)?;
+    ways.insert(at, host.way())?;
+    let Ok(()) = hosts.insert(at, host) else {
+        unreachable!()
+    };
     Ok(())
+}
+
+/// Writes anew what a plan holds of each host. There has to be memory for it.
+fn write_ways(ways: &mut Vec<BridgeHost>, hosts: &[Host])
+    requires { length hosts.now ≤ vec_capacity ways.old }
+    ensures { ways.new.items ≡ map host_way hosts.now }
+{
+    ways.clear();
+    for host in hosts {
+        ways.push_reserved(host.way());
+    }
 }
 
 /// Lets so many seconds go by for each host.

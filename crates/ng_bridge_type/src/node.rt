@@ -45,7 +45,7 @@ impl Model for BridgeNode {
 fn plan_of(alloc: Global, bridge: &Bridge) -> Result<Arc<Plan>, NoMemory>
     ensures { IfOk result (λ plan. arc_value plan ≡ bridge_way bridge.now.config (map link_way bridge.now.links) (map host_way bridge.now.hosts)) }
 {
-    Plan::share(alloc, bridge.way(alloc)?)
+    Plan::of_bridge(alloc, bridge.plan(alloc)?)
 }
 
 /// What becomes of a frame.

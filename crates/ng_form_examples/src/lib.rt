@@ -1,10 +1,13 @@
-//! Worked shapes, text forms and rows of messages, messages by their names, and generic orders.
+//! Worked shapes, text forms and rows of messages, messages by their names, generic orders, and the names, addresses and
+//! bytes that these are made of.
 #![tactic(auto)]
 
 #[cfg(test)]
 mod messages;
 #[cfg(test)]
 mod orders;
+#[cfg(test)]
+mod parts;
 #[cfg(test)]
 mod shapes;
 #[cfg(test)]

@@ -31,7 +31,7 @@ IsLesserBefore {X} key xs a k = (j : ℕ) (d : X) → j < k → key (get_or xs j
 abbrev IsGreaterFrom : {X : Type 0} → (X → ℕ) → List X → ℕ → ℕ → Type 0
 IsGreaterFrom {X} key xs a k = (j : ℕ) (d : X) → k ≤ j → j < length xs → a < key (get_or xs j d)
 
-find_at : {X : Type 0} (key : X → ℕ) (xs : List X) (a k : ℕ) → IsLesserBefore key xs a k → k < length xs → ((d : X) → key (get_or xs k d) ≡ a) → find (λ x. key x == a) xs ≡ slice_get xs k
+pub find_at : {X : Type 0} (key : X → ℕ) (xs : List X) (a k : ℕ) → IsLesserBefore key xs a k → k < length xs → ((d : X) → key (get_or xs k d) ≡ a) → find (λ x. key x == a) xs ≡ slice_get xs k
 find_at key [] a k less below at = absurd (omega arith)
 find_at key (x ∷ xs) a zero less below at = grind (arith, nat_tests, at x)
 find_at key (x ∷ xs) a (suc k) less below at =

@@ -1,2 +1,4 @@
 pub mod ByName
+pub mod Filters
+pub mod NameMap
 pub mod Table

@@ -1,13 +1,13 @@
 // Entries that are found by their names.
-ghost use Rattle.std.specs.Prelude.{◌≡◌, find, is_some, IfOk, OnOk, List, ℕ};
+ghost use Rattle.std.specs.Prelude.{◌≡◌, not, filter, find, IfOk, OnOk, List, ℕ};
 ghost use Rattle.std.specs.List.{list_any};
 ghost use Rattle.std.specs.Option.{option_copied};
-ghost use Rattle.ng_lookup.specs.ByName.{has_the_name, IsIndexed, PutsFirst};
+ghost use Rattle.ng_lookup.specs.ByName.{CutsPlace, has_the_name, IsIndexed, PutsFirst};
 
+use crate::name_map::NameMap;
 use ng_base::{Name, NoMemory, Sequence};
 use ng_machine::{BpfWay, BridgeLink, VlanWay};
 use std::alloc::Global;
-use std::collections::BTreeMap;
 use std::marker::Model;
 
 /// An entry that is found by a name.
@@ -57,14 +57,15 @@ impl Named for BridgeLink {
 }
 
 /// The places of entries in their list, under their names.
-pub type Places = BTreeMap<Name, usize>;
+pub type Places = NameMap<usize>;
 
-//// Puts a place under a name, where there is none yet: what was there goes back.
+/// Puts a place under a name, where there is none yet.
 fn put_first(places: &mut Places, name: Name, place: usize) -> Result<(), NoMemory>
     ensures { OnOk result (PutsFirst places.old places.new name place) }
 {
-    if let Some(first) = places.insert(name, place)? {
-        places.insert(name, first)?;
+    if places.get(&name).is_none() {
+        places.reserve()?;
+        places.put(name, place);
     }
     Ok(())
 }
@@ -76,11 +77,19 @@ fn put_first(places: &mut Places, name: Name, place: usize) -> Result<(), NoMemo
 pub fn places_of<T: Named>(alloc: Global, entries: &[T]) -> Result<Places, NoMemory>
     ensures { IfOk result (IsIndexed T.name_of entries.now) }
 {
-    let mut places = BTreeMap::new(alloc);
+    let mut places = NameMap::new(alloc);
     for place in 0..entries.len() {
         put_first(&mut places, entries[place].name(), place)?;
     }
     Ok(places)
+}
+
+/// Takes the place of a name out. Those behind it go one down, as the entries do where that at the place is taken out.
+pub fn cut_place(places: &mut Places, name: &Name, place: usize)
+    ensures { CutsPlace places.old name.now place places.new }
+{
+    places.remove(name);
+    places.shift_down(place);
 }
 
 /// The first entry of a name, by the places of entries.
@@ -89,7 +98,7 @@ pub fn find_named<'a, T: Named>(entries: &'a [T], places: &Places, name: &Name) 
     ensures { option_copied result ≡ find (has_the_name T.name_of name.now) entries.now }
 {
     match places.get(name) {
-        Some(&place) => Some(&entries[place]),
+        Some(place) => Some(&entries[place]),
         None => None,
     }
 }
@@ -127,11 +136,46 @@ impl<T: Named> NameTable<T> {
         Ok(NameTable { entries, places })
     }
 
+    /// A table of these entries with the place of the first entry of each name. None of them is looked at.
+    pub fn with_places(entries: Sequence<T>, places: Places) -> NameTable<T>
+        requires { IsIndexed T.name_of entries places }
+        ensures { result ≡ entries }
+    {
+        NameTable { entries, places }
+    }
+
     /// The entries, in their order.
     pub fn as_slice(&self) -> &[T]
         ensures { result.now ≡ self.now }
     {
         self.entries.as_slice()
+    }
+
+    /// The table of the entries that have another name than this, which are given. None of them is looked at, except
+    /// where more than one is missing.
+    ///
+    /// # Errors
+    /// `NoMemory` where memory ran out, and for nothing else.
+    pub fn without(
+        &self,
+        alloc: Global,
+        name: &Name,
+        kept: Sequence<T>,
+    ) -> Result<NameTable<T>, NoMemory>
+    where
+        T: Drop,
+        requires { kept ≡ filter (λ entry. not (has_the_name T.name_of name.now entry)) self.now }
+        ensures { IfOk result (λ table. table ≡ kept) }
+    {
+        let Some(place) = self.places.get(name) else {
+            return Ok(NameTable::with_places(kept, self.places.again(alloc)?));
+        };
+        if self.entries.as_slice().len() - kept.as_slice().len() > 1 {
+            return NameTable::new(alloc, kept);
+        }
+        let mut places = self.places.again(alloc)?;
+        cut_place(&mut places, name, place);
+        Ok(NameTable::with_places(kept, places))
     }
 
     /// The first entry of this name.
@@ -145,6 +189,6 @@ impl<T: Named> NameTable<T> {
     pub fn has(&self, name: &Name) -> bool
         ensures { result ≡ list_any (has_the_name T.name_of name.now) self.now }
     {
-        self.places.contains_key(name)
+        self.places.get(name).is_some()
     }
 }

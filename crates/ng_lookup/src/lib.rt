@@ -7,16 +7,18 @@ mod by_name;
 mod filters;
 mod hooks;
 mod key;
+mod name_map;
 mod names;
 mod outcomes;
 mod sending;
 mod table;
 
 pub use addresses::{destination_of, is_broadcast, is_group, source_of};
-pub use by_name::{NameTable, Named};
+pub use by_name::{NameTable, Named, Places, cut_place, find_named};
 pub use filters::Filters;
 pub use hooks::Hooks;
 pub use key::{Key, address_number, same_address};
+pub use name_map::NameMap;
 pub use names::{
     all_hook, downstream, in_hook, is_named, known_hook, left, left2right, link_hook, link_number,
     lower, many, mixed, nomatch, one, other_hook, out_hook, right, right2left, upper,

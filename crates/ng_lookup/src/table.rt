@@ -64,6 +64,17 @@ impl<T: Key> Table<T> {
         Table { entries, ascends }
     }
 
+    /// A table of entries that stand in order of their numbers. None of them is looked at.
+    pub fn ascending(entries: Sequence<T>) -> Table<T>
+        requires { IsAscending T.key_of entries }
+        ensures { result ≡ entries }
+    {
+        Table {
+            entries,
+            ascends: true,
+        }
+    }
+
     /// The entries, in their order.
     pub fn as_slice(&self) -> &[T]
         ensures { result.now ≡ self.now }

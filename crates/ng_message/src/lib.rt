@@ -11,8 +11,6 @@ mod laws;
 mod message;
 mod numbers;
 mod readers;
-#[cfg(test)]
-mod tests;
 mod writers;
 
 pub use codec::{decode, encode};

@@ -8,8 +8,6 @@ mod hooks;
 mod laws;
 mod path;
 mod reading;
-#[cfg(test)]
-mod tests;
 
 pub use fault::PathFault;
 pub use hooks::Hooks;

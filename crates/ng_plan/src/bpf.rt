@@ -65,12 +65,13 @@ fn ways_without(alloc: Global, ways: &[BpfWay], hook: &Name) -> Result<Sequence<
 }
 
 impl BpfPlan {
-    /// The way without a hook, whose program goes with it.
-    pub fn without(&self, alloc: Global, hook: &Name) -> Result<Way, NoMemory>
-        ensures { IfOk result (λ way. way ≡ plan_without (Way.Bpf self.now.ways) hook.now) }
+    /// The plan without a hook, whose program goes with it.
+    pub fn without(&self, alloc: Global, hook: &Name) -> Result<BpfPlan, NoMemory>
+        ensures { IfOk result (λ next. Way.Bpf next.ways ≡ plan_without (Way.Bpf self.now.ways) hook.now) }
     {
-        Ok(Way::Bpf {
-            hooks: ways_without(alloc, self.ways.as_slice(), hook)?,
+        let kept = ways_without(alloc, self.ways.as_slice(), hook)?;
+        Ok(BpfPlan {
+            ways: self.ways.without(alloc, hook, kept)?,
         })
     }
 

@@ -21,6 +21,7 @@ mod tee;
 mod vlan;
 
 pub use evaluation::eval;
+pub use ng_bridge_plan::BridgePlan;
 pub use ng_lookup::{
     all_hook, answers, count_packet, count_packets, downstream, fails, in_hook, known_hook, left,
     left2right, link_hook, link_number, lower, many, mixed, nomatch, nothing, one, other_hook,
@@ -32,3 +33,4 @@ pub use ng_machine::{
 };
 pub use plan::Plan;
 pub use removal::{cuts_plan, without};
+pub use vlan::VlanPlan;

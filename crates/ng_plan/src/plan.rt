@@ -14,7 +14,7 @@ use crate::vlan::VlanPlan;
 use ng_base::NoMemory;
 use ng_bridge_plan::BridgePlan;
 use ng_lookup::{Filters, Hooks, NameTable, Table};
-use ng_machine::Plan as Way;
+use ng_machine::{BpfWay, Plan as Way};
 use std::alloc::Global;
 use std::marker::Model;
 use std::sync::Arc;
@@ -22,8 +22,8 @@ use std::sync::Arc;
 /// What a node's rule for packets reads of its state, without counters: immutable, and shared by the packets that
 /// are worked on beside each other. A one2many has none, since its packets change it.
 ///
-/// A contract sees the way that it was made of, which is the machine's plan. A name is looked for in a tree, and a
-/// number by binary search, where its list is in the order in which nodes keep it.
+/// A contract sees the way that it was made of, which is the machine's plan. A name is looked for by binary search, and
+/// a number too, where its list is in the order in which nodes keep it.
 #[derive(Drop)]
 pub struct Plan {
     form: Form,
@@ -106,6 +106,46 @@ impl Plan {
     {
         let plan = Plan::new(alloc, way)?;
         Ok(Arc::new(alloc, plan)?)
+    }
+
+    /// The plan of a vlan, to be shared by those who work on packets. None of its filters is looked at.
+    ///
+    /// # Errors
+    /// `NoMemory` where memory ran out, and for nothing else.
+    pub fn of_vlan(alloc: Global, vlan: VlanPlan) -> Result<Arc<Plan>, NoMemory>
+        ensures { IfOk result (λ plan. arc_value plan ≡ Way.Vlan vlan.hooks vlan.kind vlan.filters) }
+    {
+        let form = Form::OfVlan(vlan);
+        Ok(Arc::new(alloc, Plan { form })?)
+    }
+
+    /// The plan of a bridge, to be shared by those who work on frames. Neither its links nor its hosts are looked at.
+    ///
+    /// # Errors
+    /// `NoMemory` where memory ran out, and for nothing else.
+    pub fn of_bridge(alloc: Global, bridge: BridgePlan) -> Result<Arc<Plan>, NoMemory>
+        ensures { IfOk result (λ plan. arc_value plan ≡ Way.Bridge bridge.config bridge.links bridge.hosts) }
+    {
+        let form = Form::OfBridge(bridge);
+        Ok(Arc::new(alloc, Plan { form })?)
+    }
+
+    /// The plan of a bpf, to be shared by those who work on packets: what stands at its hooks, which is not looked at.
+    ///
+    /// # Errors
+    /// `NoMemory` where memory ran out, and for nothing else.
+    pub fn of_bpf(alloc: Global, ways: NameTable<BpfWay>) -> Result<Arc<Plan>, NoMemory>
+        ensures { IfOk result (λ plan. arc_value plan ≡ Way.Bpf ways) }
+    {
+        let form = Form::OfBpf(BpfPlan { ways });
+        Ok(Arc::new(alloc, Plan { form })?)
+    }
+
+    /// The plan that is made of this.
+    pub(crate) fn of(form: Form) -> Plan
+        ensures { result ≡ way_of_form form }
+    {
+        Plan { form }
     }
 
     /// What it is made of.

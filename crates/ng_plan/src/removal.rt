@@ -3,7 +3,6 @@ ghost use Rattle.std.specs.Prelude.{◌≡◌, IfOk, Some};
 ghost use Rattle.std.specs.Arc.{arc_value};
 ghost use Rattle.ng_base.specs.Names.{without_name};
 ghost use Rattle.ng_machine.specs.State.{State, cut_hook, way_of};
-ghost use Rattle.ng_plan.specs.Way.{IsWorkable};
 ghost use Rattle.ng_plan.specs.Without.{CutsPlan, plan_without};
 
 use crate::form::Form;
@@ -39,12 +38,11 @@ fn bridge_without(alloc: Global, bridge: &BridgePlan, hook: &Name) -> Result<Way
     })
 }
 
-/// The way of a plan without a hook.
-fn way_without(alloc: Global, plan: &Plan, hook: &Name) -> Result<Way, NoMemory>
-    ensures way { IfOk result (λ way. way ≡ plan_without plan.now hook.now) }
-    ensures workable { IfOk result IsWorkable }
+/// The plan without a hook.
+fn next_plan(alloc: Global, plan: &Plan, hook: &Name) -> Result<Plan, NoMemory>
+    ensures { IfOk result (λ next. next ≡ plan_without plan.now hook.now) }
 {
-    Ok(match plan.form() {
+    let way = match plan.form() {
         Form::OfHole => Way::Discard,
         Form::OfEcho => Way::Echo,
         Form::OfHub(hooks) => Way::Fan {
@@ -54,9 +52,9 @@ fn way_without(alloc: Global, plan: &Plan, hook: &Name) -> Result<Way, NoMemory>
             kind: *kind,
             hooks: hooks.without(alloc, hook)?,
         },
-        Form::OfVlan(vlan) => vlan.without(alloc, hook)?,
+        Form::OfVlan(vlan) => return Ok(Plan::of(Form::OfVlan(vlan.without(alloc, hook)?))),
         Form::OfPatch(patch) => patch.without(alloc, hook)?,
-        Form::OfBpf(bpf) => bpf.without(alloc, hook)?,
+        Form::OfBpf(bpf) => return Ok(Plan::of(Form::OfBpf(bpf.without(alloc, hook)?))),
         Form::OfEther(has_lower) => Way::Ether {
             lower: *has_lower && !is_named(hook, b"lower"),
         },
@@ -64,7 +62,8 @@ fn way_without(alloc: Global, plan: &Plan, hook: &Name) -> Result<Way, NoMemory>
         Form::OfBridge(bridge) => bridge_without(alloc, bridge, hook)?,
         Form::OfEtf(etf) => etf.without(alloc, hook)?,
         Form::OfMacset(macset) => macset.without(alloc, hook)?,
-    })
+    };
+    Plan::new(alloc, way)
 }
 
 /// The plan of the node once a hook is cut, on each state of which this is the plan: so a step that cuts a hook has
@@ -77,7 +76,8 @@ pub fn without(alloc: Global, plan: &Plan, hook: &Name) -> Result<Arc<Plan>, NoM
     ensures way { IfOk result (λ next.
         (state : State) → way_of state ≡ Some plan.now → way_of (cut_hook state hook.now) ≡ Some (arc_value next)) }
 {
-    Plan::share(alloc, way_without(alloc, plan, hook)?)
+    let next = next_plan(alloc, plan, hook)?;
+    Ok(Arc::new(alloc, next)?)
 }
 
 /// On each state, whether it has a plan or none: the way after a cut is the way before without the hook.

@@ -3,10 +3,10 @@ ghost use Rattle.std.specs.Prelude.{◌≡◌, IfOk, Some};
 ghost use Rattle.std.specs.Int.{to_be_bytes, w16};
 ghost use Rattle.std.specs.Option.{option_copied};
 ghost use Rattle.ng_frame.specs.Frame.{IsTagged, tag_of};
-ghost use Rattle.ng_machine.specs.Vlan.{by_tag, control_of, into_filter, out_of_filter, tags, without_filters_of};
+ghost use Rattle.ng_machine.specs.Vlan.{by_tag, control_of, into_filter, out_of_filter, tags};
 ghost use Rattle.ng_plan.specs.Without.{plan_without};
 
-use ng_base::{Errno, Name, NoMemory, Packet, Sequence};
+use ng_base::{Errno, Name, NoMemory, Packet};
 use ng_frame::{MAX_UNTAGGED_LEN, MIN_FRAME_LEN, untag, with_tag, without_tag};
 use ng_lookup::{Filters, Hooks, downstream, fails, is_named, nomatch, nothing, send_by};
 use ng_machine::{Door, Outcome, Plan as Way, VlanWay};
@@ -29,28 +29,17 @@ fn control_of(filter: &VlanWay) -> u16
     (control % 65_536) as u16
 }
 
-/// The filters without those of a hook.
-fn filters_without(
-    alloc: Global,
-    filters: &[VlanWay],
-    hook: &Name,
-) -> Result<Vec<VlanWay>, NoMemory>
-    ensures { IfOk result (λ kept. kept.items ≡ without_filters_of hook.now filters.now) }
-{
-    let mut kept = Vec::from_slice(alloc, filters)?;
-    kept.retain(|filter| filter.hook != *hook);
-    Ok(kept)
-}
-
 impl VlanPlan {
-    /// The way without a hook, whose filter goes with it.
-    pub fn without(&self, alloc: Global, hook: &Name) -> Result<Way, NoMemory>
-        ensures { IfOk result (λ way. way ≡ plan_without (Way.Vlan self.now.hooks self.now.kind self.now.filters) hook.now) }
+    /// The plan without a hook, whose filter goes with it.
+    pub(crate) fn without(&self, alloc: Global, hook: &Name) -> Result<VlanPlan, NoMemory>
+        ensures { IfOk result (λ next.
+            Way.Vlan next.hooks next.kind next.filters
+            ≡ plan_without (Way.Vlan self.now.hooks self.now.kind self.now.filters) hook.now) }
     {
-        Ok(Way::Vlan {
-            hooks: self.hooks.without(alloc, hook)?,
+        Ok(VlanPlan {
+            hooks: Hooks::new(self.hooks.without(alloc, hook)?),
             kind: self.kind,
-            filters: Sequence::from_vec(filters_without(alloc, self.filters.as_slice(), hook)?),
+            filters: self.filters.without(alloc, hook)?,
         })
     }
 
@@ -125,7 +114,12 @@ impl VlanPlan {
     }
 
     /// What becomes of a packet.
-    pub fn work(&self, alloc: Global, door: &Door, frame: &Packet) -> Result<Outcome, NoMemory>
+    pub(crate) fn work(
+        &self,
+        alloc: Global,
+        door: &Door,
+        frame: &Packet,
+    ) -> Result<Outcome, NoMemory>
         ensures { IfOk result (λ outcome.
             outcome ≡ tags self.now.hooks self.now.kind self.now.filters door.now frame.now) }
     {

@@ -1,6 +1,5 @@
 -- Filters stay filters of hooks that are there.
-use Rattle.std.proofs.Common.{◌≡◌, ℕ, Bool, true, false, if◌then◌else◌, nat_lt, List, [], ◌∷◌, ◌++◌, filter, find, is_some, refl, sym, ap, subst, inl, inr}
-use Rattle.std.specs.List.{list_any}
+use Rattle.std.proofs.Common.{◌≡◌, ℕ, Bool, true, false, if◌then◌else◌, nat_lt, List, [], ◌∷◌, ◌++◌, filter, refl, sym, ap, subst, inl, inr}
 use Rattle.std.proofs.lemmas.Bool.{cases_Bool}
 use Rattle.ng_base.specs.Names.{has_name, without_name}
 use Rattle.ng_base.specs.declared.kind.Kind.TheVariants.{Vlan as OfVlan}
@@ -54,10 +53,6 @@ sifted P test (x ∷ xs) kept = elim (cases_Bool (test x)) [
   | inl is ↦ rw is (kept.0, sifted P test xs kept.1)
   | inr other ↦ rw other (sifted P test xs kept.1)
 ]
-
-pub any_found : {A : Type 0} (test : A → Bool) (xs : List A) → list_any test xs ≡ is_some (find test xs)
-any_found test [] = refl
-any_found test (x ∷ xs) = elim (cases_Bool (test x)) [ inl is ↦ rw is refl | inr other ↦ rw other (any_found test xs) ]
 
 pub put_kept : (hooks : List (List ℕ)) (f : VlanWay) (filters now : List VlanWay) → now ≡ put_filter f filters → has_name hooks f.hook ≡ true → AreOf hooks filters → AreOf hooks now
 put_kept hooks f filters now e there kept = subst (λ (fs : List VlanWay). AreOf hooks fs) (sym e) (put hooks f filters there kept)

@@ -1,4 +1,5 @@
-mod InOrder
-mod Searching
+mod Apart
 mod Hooks
+mod InOrder
 mod Refusals
+mod Searching

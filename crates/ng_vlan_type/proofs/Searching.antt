@@ -9,13 +9,13 @@ use Rattle.ng_machine.specs.declared.plan.VlanWay.{VlanWay}
 use Rattle.ng_machine.specs.Vlan.{filter_of_number, put_filter}
 use Rattle.ng_vlan_type.specs.Filters.{IsFree, IsInOrder}
 
-at_least : (low : ℕ) (fs : List VlanWay) (j : ℕ) (d : VlanWay) → IsInOrder low fs → j < length fs → low ≤ (get_or fs j d).vlan
+pub at_least : (low : ℕ) (fs : List VlanWay) (j : ℕ) (d : VlanWay) → IsInOrder low fs → j < length fs → low ≤ (get_or fs j d).vlan
 at_least low [] j d up below = absurd (omega arith)
 at_least low (f ∷ fs) zero d up below = up.0
 at_least low (f ∷ fs) (suc j) d up below = omega (arith, up.0, at_least (suc f.vlan) fs j d up.2 (omega arith))
 
 -- of two filters the later has the greater number
-ascends_far : (low : ℕ) (fs : List VlanWay) (i j : ℕ) (d : VlanWay) → IsInOrder low fs → i < j → j < length fs → (get_or fs i d).vlan < (get_or fs j d).vlan
+pub ascends_far : (low : ℕ) (fs : List VlanWay) (i j : ℕ) (d : VlanWay) → IsInOrder low fs → i < j → j < length fs → (get_or fs i d).vlan < (get_or fs j d).vlan
 ascends_far low [] i j d up less below = absurd (omega arith)
 ascends_far low (f ∷ fs) i zero d up less below = absurd (omega arith)
 ascends_far low (f ∷ fs) zero (suc j) d up less below = omega (arith, at_least (suc f.vlan) fs j d up.2 (omega arith))

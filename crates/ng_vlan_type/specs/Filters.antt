@@ -1,7 +1,9 @@
--- Filters in order of their numbers.
+-- Filters in order of their numbers, each of its own hook.
 use Rattle.std.specs.Prelude.{◌≡◌, ◌≤◌, ℕ, suc, Bool, not, ◌||◌, nat_lt, List, [], ◌∷◌, insert, length, None}
 use Rattle.ng_base.specs.Name.{is_name}
 use Rattle.ng_base.specs.Names.{has_name}
+use Rattle.ng_lookup.specs.Filters.{AreApart, AreNumbersOf}
+use Rattle.ng_lookup.specs.NameMap.{Map}
 use Rattle.ng_machine.specs.Names.{downstream, nomatch}
 use Rattle.ng_machine.specs.declared.plan.VlanWay.{VlanWay}
 use Rattle.ng_machine.specs.Vlan.{filter_of_number, put_filter}
@@ -10,6 +12,12 @@ use Rattle.ng_machine.specs.Vlan.{filter_of_number, put_filter}
 abbrev pub IsInOrder : ℕ → List VlanWay → Type 0
 IsInOrder low [] = Unit {0}
 IsInOrder low (f ∷ filters) = (low ≤ f.vlan) × (f.vlan ≤ 4095) × IsInOrder (suc f.vlan) filters
+
+-- filters as a node keeps them, with the number of each hook's filter
+pub record AreKept (filters : List VlanWay) (numbers : Map ℕ) : Type 0 where
+  pub in_order : IsInOrder 0 filters
+  pub apart : AreApart filters
+  pub numbered : AreNumbersOf filters numbers
 
 -- no filter has this one's number, and it goes to this place
 pub record IsFree (f : VlanWay) (filters : List VlanWay) (place : ℕ) : Type 0 where

@@ -1,31 +1,36 @@
 // The filters of a vlan node.
 ghost use Rattle.std.specs.Prelude.{◌≡◌, ◌≤◌, ◌++◌, [], true, false, flat_map, is_some, IfOk, OnOk, OnErr, MatchOption, None};
-ghost use Rattle.std.specs.List.{list_any};
-ghost use Rattle.ng_machine.specs.Vlan.{filter_bytes, filter_of_hook, filter_of_number, filters_bytes, is_filter_of, put_filter, without_filters_of};
+ghost use Rattle.ng_lookup.specs.Filters.{without_number};
+ghost use Rattle.ng_machine.specs.Vlan.{filter_bytes, filter_of_hook, filter_of_number, filters_bytes, put_filter, without_filters_of};
 ghost use Rattle.ng_vlan_type.specs.Filters.{IsFree, IsInOrder};
 
 use ng_base::{Bytes, Name, NoMemory, Sequence};
+use ng_lookup::{Filters as PlanFilters, NameMap};
 use ng_machine::VlanWay;
 use ng_message::{put_name, put_u16, put_u32};
 use std::alloc::Global;
 use std::marker::Model;
 
-/// The filters of a vlan node, in order of their numbers, which are at most 4,095. A contract sees them as a list.
+/// The filters of a vlan node, in order of their numbers, which are at most 4,095, and each of its own hook. One is found
+/// by its number or its hook in a time of the logarithm of how many there are.
+///
+/// A contract sees them as a list.
 #[derive(Drop)]
 pub struct Filters {
     list: Vec<VlanWay>,
+    numbers: NameMap<u16>,
 }
 
 impl Model for Filters {
     ghost use Rattle.std.specs.Prelude.{List};
     ghost use Rattle.ng_machine.specs.declared.plan.VlanWay.{VlanWay};
-    ghost use Rattle.ng_vlan_type.specs.Filters.{IsInOrder};
+    ghost use Rattle.ng_vlan_type.specs.Filters.{AreKept};
 
     ghost Value = { List VlanWay };
 
     ghost view = { λ f. f.list.items };
 
-    ghost invariant = { λ f. IsInOrder 0 f.list.items };
+    ghost invariant = { λ f. AreKept f.list.items f.numbers };
 }
 
 /// The place for a filter, where no other has its number.
@@ -41,18 +46,14 @@ fn free_place(filters: &[VlanWay], filter: &VlanWay) -> Option<usize>
     }
 }
 
-/// Leaves out the filters of a hook.
-fn leave_out(filters: &mut Vec<VlanWay>, hook: &Name)
-    ensures { filters.new.items ≡ without_filters_of hook.now filters.old.items }
+/// Takes the filter of a number out.
+fn take_out(filters: &mut Vec<VlanWay>, number: u16)
+    requires { IsInOrder 0 filters.old.items }
+    ensures { filters.new.items ≡ without_number number filters.old.items }
 {
-    filters.retain(|filter| filter.hook != *hook);
-}
-
-/// Whether a hook has a filter among these.
-fn has_filter_of(filters: &[VlanWay], hook: &Name) -> bool
-    ensures { result ≡ list_any (is_filter_of hook.now) filters.now }
-{
-    filters.iter().any(|filter| filter.hook == *hook)
+    if let Ok(place) = filters.binary_search_by_key(&number, |filter| filter.vlan) {
+        let _filter = filters.remove(place);
+    }
 }
 
 fn append_filter(out: &mut Vec<u8>, filter: &VlanWay) -> Result<(), NoMemory>
@@ -81,15 +82,15 @@ impl Filters {
     {
         Filters {
             list: Vec::new(alloc),
+            numbers: NameMap::new(alloc),
         }
     }
 
     /// Whether a hook has a filter.
-    #[tactic(auto, using(crate::proofs::Hooks::any_found))]
     pub fn has_hook(&self, hook: &Name) -> bool
         ensures { result ≡ is_some (filter_of_hook hook.now self.now) }
     {
-        has_filter_of(&self.list, hook)
+        self.numbers.get(hook).is_some()
     }
 
     /// Whether another filter has this one's number.
@@ -102,40 +103,45 @@ impl Filters {
         }
     }
 
-    /// Adds a filter in its place, by its number, which no other has.
+    /// Adds a filter in its place, by its number, which no other has. Its hook has none yet.
     ///
     /// # Errors
     /// `NoMemory` where memory ran out, and for nothing else; the filters are then as before.
-    #[tactic(auto, using(crate::proofs::InOrder::inserted))]
     pub fn add(&mut self, filter: VlanWay) -> Result<(), NoMemory>
         requires few { filter.vlan ≤ 4095 }
         requires fresh { is_some (filter_of_number filter.vlan self.old) ≡ false }
+        requires alone { is_some (filter_of_hook filter.hook self.old) ≡ false }
         ensures ok { OnOk result (self.new ≡ put_filter filter self.old) }
         ensures err { OnErr result (self.new ≡ self.old) }
     {
         let Some(place) = free_place(&self.list, &filter) else {
             unreachable!()
         };
+        self.numbers.reserve()?;
         self.list.insert(place, filter)?;
+        self.numbers.put(filter.hook, filter.vlan);
         Ok(())
     }
 
     /// Takes the filter of a hook out.
-    #[tactic(auto, using(crate::proofs::InOrder::sifted))]
     pub fn cut(&mut self, hook: &Name)
         ensures { self.new ≡ without_filters_of hook.now self.old }
     {
-        leave_out(&mut self.list, hook);
+        if let Some(number) = self.numbers.get(hook) {
+            take_out(&mut self.list, number);
+            self.numbers.remove(hook);
+        }
     }
 
-    /// A copy of the filters, as a plan holds them.
+    /// A copy of the filters, as a plan holds them. It is a copy of memory.
     ///
     /// # Errors
     /// `NoMemory` where memory ran out, and for nothing else.
-    pub fn copy(&self, alloc: Global) -> Result<Sequence<VlanWay>, NoMemory>
+    pub fn copy(&self, alloc: Global) -> Result<PlanFilters, NoMemory>
         ensures { IfOk result (λ filters. filters ≡ self.now) }
     {
-        Ok(Sequence::from_vec(Vec::from_slice(alloc, &self.list)?))
+        let list = Sequence::from_vec(Vec::from_slice(alloc, &self.list)?);
+        Ok(PlanFilters::with_numbers(list, self.numbers.again(alloc)?))
     }
 
     /// The filters as `gettable` is answered: how many, and each by its hook, number, priority and drop indicator.

@@ -1,9 +1,10 @@
 // ng_vlan(4): parts the frames of VLANs by their tags, and tags them on the way back.
 ghost use Rattle.std.specs.Prelude.{◌≡◌, ◌≢◌, ◌≤◌, false, true, is_some, IfOk, IfNone, OnOk, OnErr};
+ghost use Rattle.std.specs.Arc.{arc_value};
 ghost use Rattle.byteorder.specs.Endian.{little_bytes};
 ghost use Rattle.ng_base.specs.Name.{is_name};
 ghost use Rattle.ng_base.specs.Names.{has_name};
-ghost use Rattle.ng_machine.specs.Vlan.{add_filter, add_refusals, delete_filter, filter_of_number, is_taken, vlan_message};
+ghost use Rattle.ng_machine.specs.Vlan.{add_filter, add_refusals, delete_filter, filter_of_hook, filter_of_number, is_taken, vlan_message};
 ghost use Rattle.ng_machine.specs.Words.{first_refusal};
 ghost use Rattle.ng_machine.specs.State.{blank_of};
 ghost use Rattle.ng_vlan_type.specs.Filters.{is_invalid};
@@ -16,10 +17,11 @@ use crate::messages::{
 };
 use ng_base::{Bytes, Errno, Kind, Name, NoMemory};
 use ng_frame::{CUSTOMER_TAG, SERVICE_TAG};
+use ng_lookup::Hooks;
 use ng_machine::{Body, Counts, Farewell, Outcome, VlanWay};
 use ng_message::{Msg, NAME_LEN, put_u32, u32_at};
 use ng_node::{HookList, Node};
-use ng_plan::{Plan, Way, answers, downstream, eval, fails, nomatch, nothing};
+use ng_plan::{Plan, VlanPlan, Way, answers, downstream, eval, fails, nomatch, nothing};
 use std::alloc::Global;
 use std::marker::Model;
 use std::sync::Arc;
@@ -70,15 +72,17 @@ fn is_invalid(filter: &VlanWay) -> bool
 }
 
 impl VlanNode {
-    /// What its plan is made of.
-    fn way(&self, alloc: Global) -> Result<Way, NoMemory>
-        ensures { IfOk result (λ way. way ≡ Way.Vlan self.now.hooks self.now.kept.kind self.now.kept.filters) }
+    /// Its plan, to be shared by those who work on packets.
+    fn shared_plan(&self, alloc: Global) -> Result<Arc<Plan>, NoMemory>
+        ensures { IfOk result (λ plan.
+            arc_value plan ≡ Way.Vlan self.now.hooks self.now.kept.kind self.now.kept.filters) }
     {
-        Ok(Way::Vlan {
-            hooks: self.hooks.names(alloc)?,
+        let vlan = VlanPlan {
+            hooks: Hooks::new(self.hooks.names(alloc)?),
             kind: self.kind,
             filters: self.filters.copy(alloc)?,
-        })
+        };
+        Plan::of_vlan(alloc, vlan)
     }
 
     /// Why a filter isn't added, if it isn't.
@@ -89,6 +93,7 @@ impl VlanNode {
         ensures few { IfNone result (filter.now.vlan ≤ 4095) }
         ensures there { IfNone result (has_name self.now.hooks filter.now.hook ≡ true) }
         ensures fresh { IfNone result (is_some (filter_of_number filter.now.vlan self.now.kept.filters) ≡ false) }
+        ensures alone { IfNone result (is_some (filter_of_hook filter.now.hook self.now.kept.filters) ≡ false) }
     {
         if is_invalid(filter) {
             Some(Errno::INVAL)
@@ -105,6 +110,7 @@ impl VlanNode {
     fn is_taken(&self, filter: &VlanWay) -> bool
         ensures taken { result ≡ is_taken filter.now self.now.kept.filters }
         ensures fresh { result ≡ false → is_some (filter_of_number filter.now.vlan self.now.kept.filters) ≡ false }
+        ensures alone { result ≡ false → is_some (filter_of_hook filter.now.hook self.now.kept.filters) ≡ false }
     {
         self.filters.has_hook(&filter.hook) || self.filters.has_number_of(filter)
     }
@@ -264,7 +270,7 @@ impl Node for VlanNode {
     }
 
     fn plan(&self, alloc: Global) -> Result<Option<Arc<Plan>>, NoMemory> {
-        Ok(Some(Plan::share(alloc, self.way(alloc)?)?))
+        Ok(Some(self.shared_plan(alloc)?))
     }
 
     fn absorb(&mut self, _counts: &Counts) {}
@@ -276,7 +282,7 @@ impl Node for VlanNode {
     fn write(&mut self, alloc: Global, body: &Body) -> Result<Outcome, NoMemory> {
         match body {
             Body::Frame { door, packet, .. } => {
-                let plan = Plan::share(alloc, self.way(alloc)?)?;
+                let plan = self.shared_plan(alloc)?;
                 eval(alloc, &plan, door, packet)
             }
             Body::Msg(msg) => self.obey(alloc, msg.header.cmd, &msg.args.0),

@@ -1,35 +1,24 @@
--- The new hook stands behind the others.
-use Rattle.std.proofs.Common.{◌≡◌, ℕ, List, [], ◌∷◌, ◌++◌, Some, sym, ap, subst, ◌∙◌}
-use Rattle.ng_base.specs.Names.{has_name}
-use Rattle.ng_machine.specs.Bpf.{Filter}
-use Rattle.ng_bpf_type.proofs.Trees.{added, fresh_name, index_added, index_same}
-use Rattle.ng_bpf_type.specs.Filters.{IsIndex, Puts, filters_at}
+-- The new hook stands behind the others, and has the place behind theirs.
+use Rattle.std.proofs.Common.{◌≡◌, rules, ℕ, List, [], ◌∷◌, ◌++◌, length, sym, ap, subst, ◌∙◌}
+use Rattle.ng_lookup.specs.NameMap.{PutsUnder}
+use Rattle.ng_machine.specs.Bpf.{Filter, bpf_with_hook}
+use Rattle.ng_bpf_type.proofs.Places.{added, has_no_place}
+use Rattle.ng_bpf_type.specs.Filters.{ArePlaced}
 use Rattle.ng_bpf_type.proofs.filters.Filters.add.Goals as goal
 
-pub invariant_of-self-in_err-insert_in : goal.invariant_of-self-in_err-insert_in
-invariant_of-self-in_err-insert_in c =
-    subst (λ (names : List (List ℕ)). IsIndex names c.insert_in.new.index) (sym c.in_ok-reserve.ensures.same)
-    (index_same c.self.inside.hooks.names c.self.inside.index c.insert_in.new.index c.in_err-insert_in.ensures.err c.self.invariant)
-
-pub add-requires-clause-fresh : goal.add-requires-clause-fresh
-add-requires-clause-fresh c =
-    ap (λ (names : List (List ℕ)). has_name names c.args.hook.now) c.in_ok-reserve.ensures.same
-    ∙ fresh_name c.self.inside.hooks.names c.self.inside.index c.args.hook.now c.self.invariant (rw (← c.self.view_is) at c.requires)
+pub put-requires-clause-fresh : goal.put-requires-clause-fresh
+put-requires-clause-fresh c =
+    c.in_ok-reserve-2.ensures.same c.args.hook.now
+    ∙ has_no_place c.self.inside.filters.items c.self.inside.places c.args.hook.now c.self.invariant (rw (← c.self.view_is) at c.requires)
 
 pub invariant_of-self-2 : goal.invariant_of-self-2
 invariant_of-self-2 c =
-    let made = subst (λ (f : Filter). Puts c.self.inside.index c.insert_in.new.index c.args.hook.now (Some f)) c.in_ok-filter.ensures c.in_ok-insert_in.ensures.ok in
-    let names : c.add.new.self.names ≡ c.self.inside.hooks.names ++ c.args.hook.now ∷ [] =
-    c.add.ensures.added ∙ ap (λ (names : List (List ℕ)). names ++ c.args.hook.now ∷ []) c.in_ok-reserve.ensures.same in
-    subst (λ (names : List (List ℕ)). IsIndex names c.insert_in.new.index) (sym names)
-    (index_added c.self.inside.hooks.names c.self.inside.index c.insert_in.new.index c.args.hook.now c.self.invariant made)
-
-pub returns-clause-ok : goal.returns-clause-ok
-returns-clause-ok c =
-    let made = subst (λ (f : Filter). Puts c.self.inside.index c.insert_in.new.index c.args.hook.now (Some f)) c.in_ok-filter.ensures c.in_ok-insert_in.ensures.ok in
-    let names : c.add.new.self.names ≡ c.self.inside.hooks.names ++ c.args.hook.now ∷ [] =
-    c.add.ensures.added ∙ ap (λ (names : List (List ℕ)). names ++ c.args.hook.now ∷ []) c.in_ok-reserve.ensures.same in
-    let fresh = fresh_name c.self.inside.hooks.names c.self.inside.index c.args.hook.now c.self.invariant (rw (← c.self.view_is) at c.requires) in
-    rw (← c.self.view_is) (
-    ap (λ (names : List (List ℕ)). filters_at names c.insert_in.new.index) names
-    ∙ added c.self.inside.hooks.names c.self.inside.index c.insert_in.new.index c.args.hook.now fresh made)
+    let s = c.self.inside.filters.items in
+    let items : c.push_reserved.new.self.items ≡ bpf_with_hook s c.args.hook.now =
+    c.push_reserved.ensures.items
+    ∙ ap (λ (filters : List Filter). filters ++ c.in_ok-filter.filter ∷ []) c.reserve.ensures.items
+    ∙ ap (λ (f : Filter). s ++ f ∷ []) c.in_ok-filter.ensures in
+    let long : c.len.result ≡ length s = c.len.ensures ∙ c.reserve.ensures.len ∙ search rules in
+    let puts = subst (λ (place : ℕ). PutsUnder c.reserve-2.new.self c.args.hook.now place c.put.new.self) long c.put.ensures in
+    subst (λ (filters : List Filter). ArePlaced filters c.put.new.self) (sym items)
+    (added s c.self.inside.places c.reserve-2.new.self c.put.new.self c.args.hook.now c.self.invariant (rw (← c.self.view_is) at c.requires) c.in_ok-reserve-2.ensures.same puts)

@@ -1,18 +1,38 @@
--- One hook is changed, and each keeps its name.
+-- What stands at the hook is changed in its place, and each hook keeps its name.
+use Rattle.std.proofs.Common.{◌≡◌, rules, length, sym, ap, ◌∙◌, arith}
 use Rattle.ng_machine.specs.Bpf.{Filter}
 use Rattle.ng_machine.specs.Counters.{zeros}
-use Rattle.ng_bpf_type.proofs.Trees.{changed, hooks_stay, index_changed}
+use Rattle.ng_bpf_type.proofs.Places.{changed, changed_places, hooks_stay, unchanged, within}
+use Rattle.ng_bpf_type.specs.Filters.{hooks_of}
 use Rattle.ng_bpf_type.proofs.filters.Filters.clear.Goals as goal
+
+pub index_mut-requires : goal.index_mut-requires
+index_mut-requires c =
+    let below = within c.self.inside.filters.items c.self.inside.places c.args.hook.now c.in-Some.place c.self.invariant (sym c.in-Some.is ∙ c.get.ensures) in
+    let long : c.self.inside.filters.len ≡ length c.self.inside.filters.items = search rules in
+    omega (arith, below, long)
 
 pub invariant_of-self : goal.invariant_of-self
 invariant_of-self c =
-    index_changed c.self.inside.hooks.names c.self.inside.index c.clear_in.new.index c.args.hook.now (λ (f : Filter). record f { counters = zeros 6 }) (λ f e. e) c.self.invariant c.clear_in.ensures
+    changed_places c.self.inside.filters.items c.self.inside.places c.args.hook.now (λ (f : Filter). record f { counters = zeros 6 }) c.in-Some.place
+    c.index_mut.result.now c.clear.new.self c.self.invariant (sym c.in-Some.is ∙ c.get.ensures) c.index_mut.ensures.value c.clear.ensures (λ f e. e)
 
-pub returns-clause-cleared : goal.returns-clause-cleared
-returns-clause-cleared c =
-    rw (← c.self.view_is) (changed c.self.inside.hooks.names c.self.inside.index c.clear_in.new.index c.args.hook.now (λ (f : Filter). record f { counters = zeros 6 }) c.self.invariant c.clear_in.ensures)
+pub returns-in-Some-clause-cleared : goal.returns-in-Some-clause-cleared
+returns-in-Some-clause-cleared c =
+    rw (← c.self.view_is)
+    (changed c.self.inside.filters.items c.self.inside.places c.args.hook.now (λ (f : Filter). record f { counters = zeros 6 }) c.in-Some.place
+    c.index_mut.result.now c.clear.new.self c.self.invariant (sym c.in-Some.is ∙ c.get.ensures) c.index_mut.ensures.value c.clear.ensures)
 
-pub returns-clause-hooks : goal.returns-clause-hooks
-returns-clause-hooks c =
-    rw (← c.self.view_is) (hooks_stay c.self.inside.hooks.names c.self.inside.index c.clear_in.new.index c.self.invariant
-    (index_changed c.self.inside.hooks.names c.self.inside.index c.clear_in.new.index c.args.hook.now (λ (f : Filter). record f { counters = zeros 6 }) (λ f e. e) c.self.invariant c.clear_in.ensures))
+pub returns-in-Some-clause-hooks : goal.returns-in-Some-clause-hooks
+returns-in-Some-clause-hooks c =
+    rw (← c.self.view_is)
+    (ap hooks_of
+    (changed c.self.inside.filters.items c.self.inside.places c.args.hook.now (λ (f : Filter). record f { counters = zeros 6 }) c.in-Some.place
+    c.index_mut.result.now c.clear.new.self c.self.invariant (sym c.in-Some.is ∙ c.get.ensures) c.index_mut.ensures.value c.clear.ensures)
+    ∙ hooks_stay c.self.inside.filters.items c.args.hook.now (λ (f : Filter). record f { counters = zeros 6 }) (λ f e. e))
+
+pub returns-in_default-clause-cleared : goal.returns-in_default-clause-cleared
+returns-in_default-clause-cleared c =
+    rw (← c.self.view_is)
+    (unchanged c.self.inside.filters.items c.self.inside.places c.args.hook.now (λ (f : Filter). record f { counters = zeros 6 }) c.self.invariant
+    (sym c.in_default.is ∙ c.get.ensures))

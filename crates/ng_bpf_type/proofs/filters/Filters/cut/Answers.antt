@@ -1,16 +1,28 @@
--- The hooks that are kept are those of other names, in their order.
-use Rattle.std.proofs.Common.{ℕ, List, sym, ap, subst, ◌∙◌}
-use Rattle.ng_bpf_type.proofs.Trees.{index_cut, without}
-use Rattle.ng_bpf_type.specs.Filters.{IsIndex, filters_at}
+-- The hook goes from its place, and the places behind it go one down.
+use Rattle.std.proofs.Common.{◌≡◌, rules, List, length, sym, subst, ◌∙◌, arith}
+use Rattle.ng_machine.specs.Bpf.{Filter}
+use Rattle.ng_bpf_type.proofs.Places.{cut, kept, removed, within}
+use Rattle.ng_bpf_type.specs.Filters.{ArePlaced}
 use Rattle.ng_bpf_type.proofs.filters.Filters.cut.Goals as goal
+
+pub remove-filter-requires : goal.remove-filter-requires
+remove-filter-requires c =
+    let below = within c.self.inside.filters.items c.self.inside.places c.args.hook.now c.in-Some.place c.self.invariant (sym c.in-Some.is ∙ c.get.ensures) in
+    let long : c.self.inside.filters.len ≡ length c.self.inside.filters.items = search rules in
+    omega (arith, below, long)
 
 pub invariant_of-self : goal.invariant_of-self
 invariant_of-self c =
-    subst (λ (names : List (List ℕ)). IsIndex names c.remove_from.new.index) (sym c.cut.ensures)
-    (index_cut c.self.inside.hooks.names c.self.inside.index c.remove_from.new.index c.args.hook.now c.self.invariant c.remove_from.ensures)
+    subst (λ (filters : List Filter). ArePlaced filters c.cut_place.new.places) (sym c.remove-filter.ensures.items)
+    (cut c.self.inside.filters.items c.self.inside.places c.cut_place.new.places c.args.hook.now c.in-Some.place c.self.invariant
+    (sym c.in-Some.is ∙ c.get.ensures) c.cut_place.ensures)
 
-pub returns : goal.returns
-returns c =
-    rw (← c.self.view_is) (
-    ap (λ (names : List (List ℕ)). filters_at names c.remove_from.new.index) c.cut.ensures
-    ∙ without c.self.inside.hooks.names c.self.inside.index c.remove_from.new.index c.args.hook.now c.self.invariant c.remove_from.ensures)
+pub returns-in-Some : goal.returns-in-Some
+returns-in-Some c =
+    rw (← c.self.view_is)
+    (c.remove-filter.ensures.items
+    ∙ removed c.self.inside.filters.items c.self.inside.places c.args.hook.now c.in-Some.place c.self.invariant (sym c.in-Some.is ∙ c.get.ensures))
+
+pub returns-in_default : goal.returns-in_default
+returns-in_default c =
+    rw (← c.self.view_is) (kept c.self.inside.filters.items c.self.inside.places c.args.hook.now c.self.invariant (sym c.in_default.is ∙ c.get.ensures))

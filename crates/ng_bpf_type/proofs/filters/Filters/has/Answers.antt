@@ -1,7 +1,11 @@
--- A name stands in the tree where it stands in the list.
-use Rattle.std.proofs.Common.{◌∙◌}
-use Rattle.ng_bpf_type.proofs.Trees.{present}
+-- A name has a place where a hook has it.
+use Rattle.std.proofs.Common.{is_some, ap, ◌∙◌}
+use Rattle.ng_lookup.proofs.Naming.{place_any}
+use Rattle.ng_machine.specs.Bpf.{is_of_hook}
 use Rattle.ng_bpf_type.proofs.filters.Filters.has.Goals as goal
 
 pub returns : goal.returns
-returns c = rw (← c.self.view_is) (c.contains_key.ensures ∙ present c.self.inside.hooks.names c.self.inside.index c.args.hook.now c.self.invariant)
+returns c =
+    c.is_some.ensures
+    ∙ ap is_some c.get.ensures
+    ∙ rw (← c.self.view_is) (ap is_some (c.self.invariant.indexed c.args.hook.now) ∙ place_any (is_of_hook c.args.hook.now) 0 c.self.inside.filters.items)

@@ -1,22 +1,10 @@
--- The ways that were copied, and one more.
-use Rattle.std.proofs.Common.{◌≡◌, ◌<◌, List, [], ◌∷◌, ◌++◌, length, map, take, get_or, sym, ap, ◌∙◌}
+-- A copy of the places leads to the hooks of the ways, as the places lead to the hooks.
+use Rattle.std.proofs.Common.{map, ap, ◌∙◌}
 use Rattle.ng_machine.specs.Bpf.{Filter}
-use Rattle.ng_machine.specs.declared.plan.BpfWay.{BpfWay}
-use Rattle.ng_bpf_type.specs.Filters.{filters_at}
-use Rattle.ng_bpf_type.proofs.Trees.{one_more_way}
+use Rattle.ng_bpf_type.proofs.Places.{ways_placed}
 use Rattle.ng_bpf_type.proofs.filters.Filters.ways.Goals as goal
 
-pub loop-hook-preserved : goal.loop-hook-preserved
-loop-hook-preserved c =
-    let names = c.self.inside.hooks.names in
-    let index = c.self.inside.index in
-    let k = c.loop-hook.hook-index in
-    let hook = c.hook-item.result in
-    let at : hook ≡ get_or names k hook = rw c.as_slice-hook-items.ensures at c.hook-item.is in
-    let below : k < length names = rw c.as_slice-hook-items.ensures at c.loop-hook-test.true in
-    let before : c.loop-hook.ways ≡ map (λ (f : Filter). f.way) (take k (filters_at names index)) = rw (← c.self.view_is) at c.loop-hook.invariant in
-    rw (← c.self.view_is) (
-    c.in_ok-push.ensures.ok
-    ∙ ap (λ (ways : List BpfWay). ways ++ c.in_ok-way_at.field-0 ∷ []) before
-    ∙ ap (λ (way : BpfWay). map (λ (f : Filter). f.way) (take k (filters_at names index)) ++ way ∷ []) c.in_ok-way_at.ensures
-    ∙ sym (one_more_way names index k hook below at))
+pub with_places-requires : goal.with_places-requires
+with_places-requires c =
+    ways_placed c.self.inside.filters.items c.self.inside.places c.in_ok-places.places _ c.self.invariant c.in_ok-places.ensures
+    (c.from_vec.ensures ∙ c.in_ok-ways.ensures ∙ ap (map (λ (f : Filter). f.way)) c.deref.ensures.value)

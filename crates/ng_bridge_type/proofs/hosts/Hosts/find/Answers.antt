@@ -15,7 +15,7 @@ returns-in-Ok c =
     let addr = c.args.addr.now in
     let is : IsAddress addr = record { six = c.told-addr; bytes = c.fits-addr } in
     let at : IsPlace address_of hosts (big_number 6 addr) c.in-Ok.at = rw (c.deref.ensures.value, c.address_number.ensures.value) at c.in-Ok.ensures.found in
-    rw (← c.self.view_is) (sym (host_found hosts addr is c.self.invariant.addressed
+    rw (← c.self.view_is) (sym (host_found hosts addr is c.self.invariant.known.addressed
     ∙ ap (option_map host_way) (find_place address_of hosts (big_number 6 addr) c.in-Ok.at at ∙ get_at hosts c.in-Ok.at c.index.result.now at.in_range c.index.ensures)))
 
 pub returns-in-Err : goal.returns-in-Err
@@ -24,4 +24,4 @@ returns-in-Err c =
     let addr = c.args.addr.now in
     let is : IsAddress addr = record { six = c.told-addr; bytes = c.fits-addr } in
     let at : IsGap address_of hosts (big_number 6 addr) c.in-Err.field-0 = rw (c.deref.ensures.value, c.address_number.ensures.value) at c.in-Err.ensures.missing in
-    rw (← c.self.view_is) (sym (host_found hosts addr is c.self.invariant.addressed ∙ ap (option_map host_way) (find_gap address_of hosts (big_number 6 addr) c.in-Err.field-0 at)))
+    rw (← c.self.view_is) (sym (host_found hosts addr is c.self.invariant.known.addressed ∙ ap (option_map host_way) (find_gap address_of hosts (big_number 6 addr) c.in-Err.field-0 at)))

@@ -4,4 +4,7 @@ use Rattle.ng_lookup.proofs.Naming.{place_any}
 use Rattle.ng_lookup.proofs.by_name.NameTable.has.Goals as goal
 
 pub returns : goal.returns
-returns g c = c.contains_key.ensures ∙ rw (← c.self.view_is) (ap is_some (c.self.invariant c.args.name.now) ∙ place_any _ 0 c.self.inside.entries)
+returns g c =
+    c.is_some.ensures
+    ∙ ap is_some c.get.ensures
+    ∙ rw (← c.self.view_is) (ap is_some (c.self.invariant c.args.name.now) ∙ place_any _ 0 c.self.inside.entries)
