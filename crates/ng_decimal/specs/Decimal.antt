@@ -14,6 +14,14 @@ begins_with_zero (b ∷ bytes) = b == 48
 abbrev pub is_number : List ℕ → Bool
 is_number word = nat_le 1 (length word) && list_all is_digit word && (not (begins_with_zero word) || length word == 1)
 
+-- one byte or more, of which the first is no zero unless it stands alone
+abbrev pub may_begin_number : List ℕ → Bool
+may_begin_number word = nat_le 1 (length word) && (not (begins_with_zero word) || length word == 1)
+
+-- the number that digits say, up to `most`
+abbrev pub digits_up_to : ℕ → List ℕ → Option ℕ
+digits_up_to most word = if list_all is_digit word && nat_le (digits_value 10 word) most then Some (digits_value 10 word) else None
+
 -- the number that a word says, from `least` to `most`
 abbrev pub number_from : ℕ → ℕ → List ℕ → Option ℕ
 number_from least most word =

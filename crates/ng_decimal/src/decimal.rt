@@ -1,9 +1,7 @@
 // Reading a number.
-ghost use Rattle.std.specs.Prelude.{◌≡◌, ◌≤◌, ◌-◌, true, nat_le, if◌then◌else◌, Some, None, IfSome};
-ghost use Rattle.std.specs.List.{list_all};
+ghost use Rattle.std.specs.Prelude.{◌≡◌, ◌≤◌, true, IfSome};
 ghost use Rattle.std.specs.Char.{digit_value};
-ghost use Rattle.std.specs.Str.Parse.{digits_value};
-ghost use Rattle.ng_decimal.specs.Decimal.{is_digit as is_a_digit, is_number as is_a_number, number_from};
+ghost use Rattle.ng_decimal.specs.Decimal.{digits_up_to, is_digit as is_a_digit, may_begin_number, number_from};
 
 fn is_digit(byte: u8) -> bool
     ensures { result ≡ is_a_digit byte }
@@ -11,20 +9,15 @@ fn is_digit(byte: u8) -> bool
     byte >= b'0' && byte <= b'9'
 }
 
-fn are_digits(word: &[u8]) -> bool
-    ensures { result ≡ list_all is_a_digit word.now }
-{
-    word.iter().all(|byte| is_digit(*byte))
-}
-
-fn is_number(word: &[u8]) -> bool
-    ensures { result ≡ is_a_number word.now }
+// Whether a word may be a number as its front is: it isn't empty, and no zero stands in front of others.
+fn begins_as_number(word: &[u8]) -> bool
+    ensures { result ≡ may_begin_number word.now }
 {
     match word {
         [] => false,
         [b'0'] => true,
         [b'0', ..] => false,
-        _ => are_digits(word),
+        _ => true,
     }
 }
 
@@ -36,20 +29,22 @@ fn digit_of(byte: u8) -> u8
     byte - b'0'
 }
 
-// The number that digits say, where it isn't greater than `most`.
+// The number that a word of digits says, where it isn't greater than `most`; `None` too where a byte is no digit.
 fn value_up_to(word: &[u8], most: u64) -> Option<u64>
-    requires { list_all is_a_digit word.now ≡ true }
-    ensures { result ≡ (if nat_le (digits_value 10 word.now) most then Some (digits_value 10 word.now) else None) }
+    ensures { result ≡ digits_up_to most word.now }
 {
-    let limit = u128::from(most);
-    let mut number: u128 = 0;
+    let mut number: u64 = 0;
     for byte in word {
-        number = number * 10 + u128::from(digit_of(*byte));
-        if number > limit {
+        if !is_digit(*byte) {
+            return None;
+        }
+        let digit = digit_of(*byte);
+        number = number.checked_mul(10)?.checked_add(u64::from(digit))?;
+        if number > most {
             return None;
         }
     }
-    Some(number as u64)
+    Some(number)
 }
 
 /// The number that a word says, where it is from `least` to `most`. `None` where the word isn't one or more decimal digits
@@ -58,7 +53,7 @@ pub fn read_decimal(word: &[u8], least: u64, most: u64) -> Option<u64>
     ensures value { result ≡ number_from least most word.now }
     ensures most { IfSome result (λ number. number ≤ most) }
 {
-    if !is_number(word) {
+    if !begins_as_number(word) {
         return None;
     }
     let number = value_up_to(word, most)?;

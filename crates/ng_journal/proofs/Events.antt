@@ -1,7 +1,8 @@
 -- Events that were read in front of others.
-use Rattle.std.proofs.Common.{◌≡◌, ℕ, ◌+◌, ◌==◌, List, [], ◌∷◌, ◌++◌, Some, None, Result, Ok, Err, refl, sym, ap, append_assoc, true}
+use Rattle.std.proofs.Common.{◌≡◌, ℕ, ◌+◌, ◌==◌, List, [], ◌∷◌, ◌++◌, Some, Result, Ok, Err, refl, sym, ap, ◌∙◌, append_assoc, true}
 use Rattle.std.specs.Str.{bytes_eq}
 use Rattle.ng_base.specs.declared.event.Event.{Event}
+use Rattle.ng_journal.specs.Fronts.{IsFirstEvent}
 use Rattle.ng_journal.specs.Journal.{line_feed, head}
 use Rattle.ng_journal.specs.Reading.{with_event, event_of, words_of, lines_of, events_from, journal_of}
 use Rattle.ng_journal.proofs.Splits.{some_part}
@@ -26,12 +27,7 @@ read_on bytes first rest cut is_head =
     let more = some_part (λ b. b == line_feed) rest in
     rw (cut, more.2, is_head) refl
 
--- a line that says no event stops the reading
-pub stuck : (events : List Event) (line : ℕ) (front behind rest : List ℕ) → lines_of rest ≡ front ∷ lines_of behind → event_of (words_of front) ≡ None
-    → onto events (events_from line (lines_of rest)) ≡ Err line
-stuck events line front behind rest cut no_event = rw (cut, first_line line front behind, no_event) refl
-
--- and one that says an event goes on
-pub onward : (events : List Event) (event : Event) (line : ℕ) (front behind rest : List ℕ) → lines_of rest ≡ front ∷ lines_of behind → event_of (words_of front) ≡ Some event
+-- a line that says an event is read on from
+pub onward : (events : List Event) (event : Event) (line : ℕ) (rest behind : List ℕ) → IsFirstEvent rest (Some event) behind
     → onto events (events_from line (lines_of rest)) ≡ onto (events ++ event ∷ []) (events_from (line + 1) (lines_of behind))
-onward events event line front behind rest cut is = rw (cut, first_line line front behind, is) (onto_more events event line (events_from (line + 1) (lines_of behind)))
+onward events event line rest behind first = ap (onto events) (first.read line) ∙ onto_more events event line (events_from (line + 1) (lines_of behind))

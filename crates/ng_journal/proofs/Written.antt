@@ -44,7 +44,7 @@ two_words n m low few =
     slice_split_at (λ b. b == blank) (decimal n) blank (decimal m) (none blank (decimal n) (digits_above n low)) refl
     ∙ ap (λ (rest : List (List ℕ)). decimal n ∷ rest) (lone_word m few)
 
-event_back : (event : Event) → Fits event → event_of (words_of (event_words event)) ≡ Some event
+pub event_back : (event : Event) → Fits event → event_of (words_of (event_words event)) ≡ Some event
 event_back Feed fits = refl
 event_back Stop fits = refl
 event_back (Back id) fits = rw (lone_word id.0 fits, digits_are_read 0 most_id id.0 fits (omega arith) (omega arith)) refl
@@ -66,7 +66,7 @@ words_above (Take seat id) fits =
     let behind : Above 0x0a (blank ∷ decimal seat) = (omega arith, wider (decimal seat) (digits_above seat fit)) in
     (omega arith, (omega arith, both 0x0a (decimal id.0) (blank ∷ decimal seat) (wider (decimal id.0) (digits_above id.0 fits.0)) behind))
 
-line_of_event : (event : Event) (rest : List ℕ) → Fits event → lines_of (event_line event ++ rest) ≡ event_words event ∷ lines_of rest
+pub line_of_event : (event : Event) (rest : List ℕ) → Fits event → lines_of (event_line event ++ rest) ≡ event_words event ∷ lines_of rest
 line_of_event event rest fits =
     ap (λ (bytes : List ℕ). lines_of bytes) (append_assoc (event_words event) (line_feed ∷ []) rest)
     ∙ slice_split_at (λ b. b == line_feed) (event_words event) line_feed rest (none line_feed (event_words event) (words_above event fits)) refl

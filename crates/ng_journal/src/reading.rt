@@ -1,8 +1,10 @@
 // A journal that the bytes of a file are.
-ghost use Rattle.std.specs.Prelude.{◌≡◌, ◌++◌, ◌+◌, ◌≤◌, MatchResult, Ok, length};
+ghost use Rattle.std.specs.Prelude.{◌≡◌, ◌∷◌, [], MatchOption, MatchResult, Ok};
+ghost use Rattle.ng_journal.specs.Fronts.{IsFirstEvent};
 ghost use Rattle.ng_journal.specs.Reading.{event_of, events_from, id_of, item_event, journal_of, lines_of, plain_event, take_event, words_of, IsTold};
 
 use crate::JournalFault;
+use crate::front::front_event;
 use crate::split::split_first;
 use ng_base::{Event, ItemId};
 use ng_decimal::read_decimal;
@@ -82,6 +84,17 @@ fn read_event(line: &[u8]) -> Option<Event>
     }
 }
 
+/// The event of the first line of a text, if the line says one, and what stands behind the line; `None` where no line ends.
+fn first_event(text: &[u8]) -> Option<(Option<Event>, &[u8])>
+    ensures { MatchOption result (lines_of text.now ≡ text.now ∷ []) (λ found. IsFirstEvent text.now found.0 found.1.now) }
+{
+    if let Some((event, rest)) = front_event(text) {
+        return Some((Some(event), rest));
+    }
+    let (line, rest) = split_first(text, LINE_FEED)?;
+    Some((read_event(line), rest))
+}
+
 /// The events of the lines behind the head.
 fn read_events(alloc: Global, text: &[u8]) -> Result<Journal, JournalFault>
     ensures { MatchResult result (λ events. events_from 2 (lines_of text.now) ≡ Ok events.items) (IsTold (events_from 2 (lines_of text.now))) }
@@ -89,8 +102,8 @@ fn read_events(alloc: Global, text: &[u8]) -> Result<Journal, JournalFault>
     let mut events = Journal::new(alloc);
     let mut rest = text;
     let mut line = 2;
-    while let Some((front, behind)) = split_first(rest, LINE_FEED) {
-        let Some(event) = read_event(front) else {
+    while let Some((event, behind)) = first_event(rest) {
+        let Some(event) = event else {
             return Err(JournalFault::BadLine(line));
         };
         events.push(event)?;

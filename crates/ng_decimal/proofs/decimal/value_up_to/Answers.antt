@@ -1,11 +1,20 @@
 -- A front of the digits says too great a number, and so do all.
-use Rattle.std.proofs.Common.{sym, arith}
-use Rattle.std.specs.Str.Parse.{digits_value}
-use Rattle.std.proofs.lemmas.Bool.{cond-false, lt-leb}
-use Rattle.ng_decimal.proofs.Digits.{above}
+use Rattle.std.proofs.Common.{sym, ◌∙◌, arith}
+use Rattle.ng_decimal.proofs.Digits.{above, too_great}
 use Rattle.ng_decimal.proofs.decimal.value_up_to.Goals as goal
 
-pub returns-then-number-limit : goal.returns-then-number-limit
-returns-then-number-limit c =
+pub returns-in_err-checked_mul : goal.returns-in_err-checked_mul
+returns-in_err-checked_mul c =
     let more = above c.loop-byte.number c.loop-byte.byte-index c.args.word.now c.loop-byte-test.true c.loop-byte.invariant.so_far in
-    sym (cond-false _ _ _ (lt-leb (digits_value 10 c.args.word.now) c.args.most (omega (arith, more, c.digit_of.ensures.value, c.from.ensures, c.from-limit.ensures, c.if-number-limit.true))))
+    c.from_residual.ensures ∙ sym (too_great c.args.most c.args.word.now (omega (arith, c.in_err-checked_mul.ensures)))
+
+pub returns-in_err-number : goal.returns-in_err-number
+returns-in_err-number c =
+    let more = above c.loop-byte.number c.loop-byte.byte-index c.args.word.now c.loop-byte-test.true c.loop-byte.invariant.so_far in
+    c.from_residual-in_err-number.ensures
+    ∙ sym (too_great c.args.most c.args.word.now (omega (arith, c.in_ok-checked_mul.ensures, c.in_err-number.ensures)))
+
+pub returns-then-number-most : goal.returns-then-number-most
+returns-then-number-most c =
+    let more = above c.loop-byte.number c.loop-byte.byte-index c.args.word.now c.loop-byte-test.true c.loop-byte.invariant.so_far in
+    sym (too_great c.args.most c.args.word.now (omega (arith, c.in_ok-checked_mul.ensures, c.in_ok-number.ensures)))
