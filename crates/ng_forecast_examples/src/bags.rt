@@ -20,17 +20,14 @@ const BAGS: [Example; 2] = [
         name: "a patch sets the first byte",
         words: "3 ngctl s em0=in em1=",
         files: &[
-            Held {
-                name: "s",
-                parts: &[(
+            (
+                "s",
+                &[(
                     1,
                     b"mkpeer em0: patch lower in\nconnect em0:lower em1: out lower\nmsg em0:lower setconfig { count=1 ops=[ { length=1 mode=1 value=0xff } ] }\n",
                 )],
-            },
-            Held {
-                name: "in",
-                parts: &[(1, &HEAD), (1, &IP)],
-            },
+            ),
+            ("in", &[(1, &HEAD), (1, &IP)]),
         ],
         bag: &[(1, &[0xff, 0, 0, 0, 0, 0x0b, 2, 0, 0, 0, 0, 0x0a, 8, 0])],
     },
@@ -38,21 +35,15 @@ const BAGS: [Example; 2] = [
         name: "a vlan takes a tag off, and puts one on with its priority",
         words: "3 ngctl s em0=ten em1=in",
         files: &[
-            Held {
-                name: "s",
-                parts: &[(
+            (
+                "s",
+                &[(
                     1,
                     b"mkpeer em0: vlan lower downstream\nconnect em0:lower em1: v10 lower\nmsg em0:lower addfilter { hook=\"v10\" vlan=10 pcp=5 }\n",
                 )],
-            },
-            Held {
-                name: "ten",
-                parts: &[(1, &HEAD), (1, &TEN)],
-            },
-            Held {
-                name: "in",
-                parts: &[(1, &HEAD), (1, &IP)],
-            },
+            ),
+            ("ten", &[(1, &HEAD), (1, &TEN)]),
+            ("in", &[(1, &HEAD), (1, &IP)]),
         ],
         bag: &[
             (1, &[2, 0, 0, 0, 0, 0x0b, 2, 0, 0, 0, 0, 0x0a, 8, 0]),

@@ -13,11 +13,7 @@ use std::test::Fail;
 const ROOM: usize = 1 << 12;
 
 /// A file: its name, and what it holds, each part so many times.
-#[derive(Clone, Copy)]
-pub(crate) struct Held {
-    pub name: &'static str,
-    pub parts: &'static [(u32, &'static [u8])],
-}
+pub(crate) type Held = (&'static str, &'static [(u32, &'static [u8])]);
 
 /// A forecast, and what comes of it.
 pub(crate) struct Example {
@@ -58,16 +54,14 @@ fn bytes_of(alloc: Global, parts: &[(u32, &[u8])]) -> Result<Vec<u8>, AllocError
 
 impl Shelf {
     fn add(&mut self, alloc: Global, file: Held) -> Result<(), Fail> {
-        let is_new = self
-            .files
-            .iter()
-            .all(|other| other.name.as_str() != file.name);
+        let (name, parts) = file;
+        let is_new = self.files.iter().all(|other| other.name.as_str() != name);
         if !is_new {
             return Err(Fail::new("two files of one name"));
         }
-        let bytes = bytes_of(alloc, file.parts)?;
+        let bytes = bytes_of(alloc, parts)?;
         let room = bytes.len();
-        let name = String::from_str(alloc, file.name)?;
+        let name = String::from_str(alloc, name)?;
         self.files.push(MemFile {
             name,
             bytes,

@@ -1,5 +1,5 @@
 //! Words that are not in form, and files that are not read or not written.
-use super::calls::{Example, Held, check};
+use super::calls::{Example, check};
 use ng_forecast::{ForecastFault, Source};
 use ng_pcap::CaptureFault;
 use ngctl_script::ScriptFault;
@@ -101,10 +101,7 @@ const FAULTS: [Example; 15] = [
     Example {
         name: "a script that is not in form",
         words: "3 ngctl s em0=in",
-        files: &[Held {
-            name: "s",
-            parts: &[(1, b"@ list\n")],
-        }],
+        files: &[("s", &[(1, b"@ list\n")])],
         failing: (0, 0),
         status: 65,
         fault: Some(ForecastFault::Script(ScriptFault::BadMark(1))),
@@ -114,10 +111,7 @@ const FAULTS: [Example; 15] = [
     Example {
         name: "a command between packets, and no such capture",
         words: "3 ngctl s em0=in",
-        files: &[Held {
-            name: "s",
-            parts: &[(1, b"@1\nlist\n")],
-        }],
+        files: &[("s", &[(1, b"@1\nlist\n")])],
         failing: (0, 0),
         status: 4,
         fault: Some(ForecastFault::Moving { command: 1 }),
@@ -127,10 +121,7 @@ const FAULTS: [Example; 15] = [
     Example {
         name: "no such capture",
         words: "3 ngctl s em0=in",
-        files: &[Held {
-            name: "s",
-            parts: &[],
-        }],
+        files: &[("s", &[])],
         failing: (0, 0),
         status: 66,
         fault: Some(ForecastFault::ReadFault(Source::Capture(0))),
@@ -140,16 +131,7 @@ const FAULTS: [Example; 15] = [
     Example {
         name: "a capture that is not in form",
         words: "3 ngctl s em0= em1=in",
-        files: &[
-            Held {
-                name: "s",
-                parts: &[],
-            },
-            Held {
-                name: "in",
-                parts: &[],
-            },
-        ],
+        files: &[("s", &[]), ("in", &[])],
         failing: (0, 0),
         status: 65,
         fault: Some(ForecastFault::Capture {
@@ -162,10 +144,7 @@ const FAULTS: [Example; 15] = [
     Example {
         name: "the first read fails",
         words: "3 ngctl s",
-        files: &[Held {
-            name: "s",
-            parts: &[],
-        }],
+        files: &[("s", &[])],
         failing: (1, 0),
         status: 66,
         fault: Some(ForecastFault::ReadFault(Source::Script)),
@@ -175,10 +154,7 @@ const FAULTS: [Example; 15] = [
     Example {
         name: "the write fails",
         words: "3 ngctl s em0=",
-        files: &[Held {
-            name: "s",
-            parts: &[],
-        }],
+        files: &[("s", &[])],
         failing: (0, 1),
         status: 74,
         fault: Some(ForecastFault::WriteFault),

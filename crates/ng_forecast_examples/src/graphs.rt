@@ -1,5 +1,5 @@
 //! Graphs, and where packets leave them.
-use super::calls::{Example, Held, check};
+use super::calls::{Example, check};
 use super::packets::{ARP, HEAD, IP, LATER_IP, NO_BYTES, TEN, TWENTY};
 use ng_forecast::ForecastFault;
 use std::test::Fail;
@@ -18,14 +18,8 @@ const GRAPHS: [Example; 34] = [
         name: "a hub sends to each other hook",
         words: "3 ngctl s em0=in em1= em2=",
         files: &[
-            Held {
-                name: "s",
-                parts: &[(1, HUB)],
-            },
-            Held {
-                name: "in",
-                parts: &[(1, &HEAD), (1, &IP), (1, &LATER_IP)],
-            },
+            ("s", &[(1, HUB)]),
+            ("in", &[(1, &HEAD), (1, &IP), (1, &LATER_IP)]),
         ],
         failing: (0, 0),
         status: 0,
@@ -37,14 +31,8 @@ const GRAPHS: [Example; 34] = [
         name: "one hop fewer",
         words: "2 ngctl s em0=in em1= em2=",
         files: &[
-            Held {
-                name: "s",
-                parts: &[(1, HUB)],
-            },
-            Held {
-                name: "in",
-                parts: &[(1, &HEAD), (1, &IP), (1, &LATER_IP)],
-            },
+            ("s", &[(1, HUB)]),
+            ("in", &[(1, &HEAD), (1, &IP), (1, &LATER_IP)]),
         ],
         failing: (0, 0),
         status: 4,
@@ -56,14 +44,8 @@ const GRAPHS: [Example; 34] = [
         name: "a command between packets",
         words: "3 ngctl s em0=in em1= em2=",
         files: &[
-            Held {
-                name: "s",
-                parts: &[(1, HUB), (1, b"@1\nshutdown em0:lower\n")],
-            },
-            Held {
-                name: "in",
-                parts: &[(1, &HEAD), (1, &IP), (1, &LATER_IP)],
-            },
+            ("s", &[(1, HUB), (1, b"@1\nshutdown em0:lower\n")]),
+            ("in", &[(1, &HEAD), (1, &IP), (1, &LATER_IP)]),
         ],
         failing: (0, 0),
         status: 4,
@@ -75,17 +57,14 @@ const GRAPHS: [Example; 34] = [
         name: "a bridge",
         words: "64 ngctl s em0=in em1=",
         files: &[
-            Held {
-                name: "s",
-                parts: &[(
+            (
+                "s",
+                &[(
                     1,
                     b"mkpeer em0: bridge lower link0\nname em0:lower br0\nconnect br0: em1: link1 lower\n",
                 )],
-            },
-            Held {
-                name: "in",
-                parts: &[(1, &HEAD), (1, &IP), (1, &LATER_IP)],
-            },
+            ),
+            ("in", &[(1, &HEAD), (1, &IP), (1, &LATER_IP)]),
         ],
         failing: (0, 0),
         status: 4,
@@ -96,16 +75,7 @@ const GRAPHS: [Example; 34] = [
     Example {
         name: "no command",
         words: "1 ngctl s em0=in em1=",
-        files: &[
-            Held {
-                name: "s",
-                parts: &[],
-            },
-            Held {
-                name: "in",
-                parts: &[(1, &HEAD), (1, &IP), (1, &LATER_IP)],
-            },
-        ],
+        files: &[("s", &[]), ("in", &[(1, &HEAD), (1, &IP), (1, &LATER_IP)])],
         failing: (0, 0),
         status: 0,
         fault: None,
@@ -116,14 +86,8 @@ const GRAPHS: [Example; 34] = [
         name: "a one2many",
         words: "64 ngctl s em0=in",
         files: &[
-            Held {
-                name: "s",
-                parts: &[(1, b"mkpeer em0: one2many lower one\n")],
-            },
-            Held {
-                name: "in",
-                parts: &[(1, &HEAD), (1, &IP)],
-            },
+            ("s", &[(1, b"mkpeer em0: one2many lower one\n")]),
+            ("in", &[(1, &HEAD), (1, &IP)]),
         ],
         failing: (0, 0),
         status: 4,
@@ -135,17 +99,14 @@ const GRAPHS: [Example; 34] = [
         name: "a tee",
         words: "3 ngctl s em0=in em1=in em2=in",
         files: &[
-            Held {
-                name: "s",
-                parts: &[(
+            (
+                "s",
+                &[(
                     1,
                     b"mkpeer em0: tee lower left\nconnect em0:lower em1: right lower\nconnect em0:lower em2: left2right lower\n",
                 )],
-            },
-            Held {
-                name: "in",
-                parts: &[(1, &HEAD), (1, &IP)],
-            },
+            ),
+            ("in", &[(1, &HEAD), (1, &IP)]),
         ],
         failing: (0, 0),
         status: 0,
@@ -157,14 +118,8 @@ const GRAPHS: [Example; 34] = [
         name: "a vlan takes tags off",
         words: "3 ngctl s em0=in em1= em2=",
         files: &[
-            Held {
-                name: "s",
-                parts: &[(1, VLAN)],
-            },
-            Held {
-                name: "in",
-                parts: &[(1, &HEAD), (1, &TEN), (1, &TWENTY), (1, &ARP)],
-            },
+            ("s", &[(1, VLAN)]),
+            ("in", &[(1, &HEAD), (1, &TEN), (1, &TWENTY), (1, &ARP)]),
         ],
         failing: (0, 0),
         status: 0,
@@ -175,16 +130,7 @@ const GRAPHS: [Example; 34] = [
     Example {
         name: "a vlan puts tags on",
         words: "3 ngctl s em0= em1=in em2=in",
-        files: &[
-            Held {
-                name: "s",
-                parts: &[(1, VLAN)],
-            },
-            Held {
-                name: "in",
-                parts: &[(1, &HEAD), (1, &IP)],
-            },
-        ],
+        files: &[("s", &[(1, VLAN)]), ("in", &[(1, &HEAD), (1, &IP)])],
         failing: (0, 0),
         status: 0,
         fault: None,
@@ -194,16 +140,7 @@ const GRAPHS: [Example; 34] = [
     Example {
         name: "a vlan refuses what is too short for a tag",
         words: "3 ngctl s em0= em1=in em2=",
-        files: &[
-            Held {
-                name: "s",
-                parts: &[(1, VLAN)],
-            },
-            Held {
-                name: "in",
-                parts: &[(1, &HEAD), (1, &NO_BYTES)],
-            },
-        ],
+        files: &[("s", &[(1, VLAN)]), ("in", &[(1, &HEAD), (1, &NO_BYTES)])],
         failing: (0, 0),
         status: 0,
         fault: None,
@@ -214,17 +151,14 @@ const GRAPHS: [Example; 34] = [
         name: "a patch",
         words: "3 ngctl s em0=in em1=",
         files: &[
-            Held {
-                name: "s",
-                parts: &[(
+            (
+                "s",
+                &[(
                     1,
                     b"mkpeer em0: patch lower in\nconnect em0:lower em1: out lower\n",
                 )],
-            },
-            Held {
-                name: "in",
-                parts: &[(1, &HEAD), (1, &IP), (1, &LATER_IP)],
-            },
+            ),
+            ("in", &[(1, &HEAD), (1, &IP), (1, &LATER_IP)]),
         ],
         failing: (0, 0),
         status: 0,
@@ -236,14 +170,8 @@ const GRAPHS: [Example; 34] = [
         name: "a patch without a way out sends back",
         words: "3 ngctl s em0=in",
         files: &[
-            Held {
-                name: "s",
-                parts: &[(1, b"mkpeer em0: patch lower in\n")],
-            },
-            Held {
-                name: "in",
-                parts: &[(1, &HEAD), (1, &IP)],
-            },
+            ("s", &[(1, b"mkpeer em0: patch lower in\n")]),
+            ("in", &[(1, &HEAD), (1, &IP)]),
         ],
         failing: (0, 0),
         status: 0,
@@ -255,14 +183,8 @@ const GRAPHS: [Example; 34] = [
         name: "and has too few hops",
         words: "2 ngctl s em0=in",
         files: &[
-            Held {
-                name: "s",
-                parts: &[(1, b"mkpeer em0: patch lower in\n")],
-            },
-            Held {
-                name: "in",
-                parts: &[(1, &HEAD), (1, &IP)],
-            },
+            ("s", &[(1, b"mkpeer em0: patch lower in\n")]),
+            ("in", &[(1, &HEAD), (1, &IP)]),
         ],
         failing: (0, 0),
         status: 4,
@@ -274,17 +196,14 @@ const GRAPHS: [Example; 34] = [
         name: "a program that matches IP",
         words: "3 ngctl s em0=in em1= em2=",
         files: &[
-            Held {
-                name: "s",
-                parts: &[(
+            (
+                "s",
+                &[(
                     1,
                     b"mkpeer em0: bpf lower in\nconnect em0:lower em1: match lower\nconnect em0:lower em2: other lower\nmsg em0:lower setprogram { thisHook=\"in\" ifMatch=\"match\" ifNotMatch=\"other\" bpf_prog_len=4 bpf_prog=[ { code=40 k=12 } { code=21 jf=1 k=2048 } { code=6 k=1 } { code=6 } ] }\n",
                 )],
-            },
-            Held {
-                name: "in",
-                parts: &[(1, &HEAD), (1, &IP), (1, &LATER_IP), (1, &ARP)],
-            },
+            ),
+            ("in", &[(1, &HEAD), (1, &IP), (1, &LATER_IP), (1, &ARP)]),
         ],
         failing: (0, 0),
         status: 0,
@@ -296,17 +215,14 @@ const GRAPHS: [Example; 34] = [
         name: "no program",
         words: "3 ngctl s em0=in em1= em2=",
         files: &[
-            Held {
-                name: "s",
-                parts: &[(
+            (
+                "s",
+                &[(
                     1,
                     b"mkpeer em0: bpf lower in\nconnect em0:lower em1: match lower\nconnect em0:lower em2: other lower\n",
                 )],
-            },
-            Held {
-                name: "in",
-                parts: &[(1, &HEAD), (1, &IP)],
-            },
+            ),
+            ("in", &[(1, &HEAD), (1, &IP)]),
         ],
         failing: (0, 0),
         status: 0,
@@ -318,17 +234,14 @@ const GRAPHS: [Example; 34] = [
         name: "a split, which refuses what comes by its out",
         words: "3 ngctl s em0=in em1=in em2=in",
         files: &[
-            Held {
-                name: "s",
-                parts: &[(
+            (
+                "s",
+                &[(
                     1,
                     b"mkpeer em0: split lower in\nconnect em0:lower em1: mixed lower\nconnect em0:lower em2: out lower\n",
                 )],
-            },
-            Held {
-                name: "in",
-                parts: &[(1, &HEAD), (1, &IP)],
-            },
+            ),
+            ("in", &[(1, &HEAD), (1, &IP)]),
         ],
         failing: (0, 0),
         status: 0,
@@ -339,16 +252,7 @@ const GRAPHS: [Example; 34] = [
     Example {
         name: "a loop",
         words: "64 ngctl s em0=in",
-        files: &[
-            Held {
-                name: "s",
-                parts: &[(1, LOOP)],
-            },
-            Held {
-                name: "in",
-                parts: &[(1, &HEAD), (1, &IP)],
-            },
-        ],
+        files: &[("s", &[(1, LOOP)]), ("in", &[(1, &HEAD), (1, &IP)])],
         failing: (0, 0),
         status: 4,
         fault: Some(ForecastFault::Undefined { packet: 1 }),
@@ -358,16 +262,7 @@ const GRAPHS: [Example; 34] = [
     Example {
         name: "a loop at one hop",
         words: "1 ngctl s em0=in",
-        files: &[
-            Held {
-                name: "s",
-                parts: &[(1, LOOP)],
-            },
-            Held {
-                name: "in",
-                parts: &[(1, &HEAD), (1, &IP)],
-            },
-        ],
+        files: &[("s", &[(1, LOOP)]), ("in", &[(1, &HEAD), (1, &IP)])],
         failing: (0, 0),
         status: 4,
         fault: Some(ForecastFault::Undefined { packet: 1 }),
@@ -377,16 +272,7 @@ const GRAPHS: [Example; 34] = [
     Example {
         name: "a loop that no packet comes to",
         words: "1 ngctl s em0= em1=in",
-        files: &[
-            Held {
-                name: "s",
-                parts: &[(1, LOOP)],
-            },
-            Held {
-                name: "in",
-                parts: &[(1, &HEAD), (1, &IP)],
-            },
-        ],
+        files: &[("s", &[(1, LOOP)]), ("in", &[(1, &HEAD), (1, &IP)])],
         failing: (0, 0),
         status: 0,
         fault: None,
@@ -397,17 +283,14 @@ const GRAPHS: [Example; 34] = [
         name: "a port whose hook was cut",
         words: "1 ngctl s em0=in em1=",
         files: &[
-            Held {
-                name: "s",
-                parts: &[(
+            (
+                "s",
+                &[(
                     1,
                     b"mkpeer em0: hub lower a\nconnect em0:lower em1: b lower\nrmhook em0: lower\n",
                 )],
-            },
-            Held {
-                name: "in",
-                parts: &[(1, &HEAD), (1, &IP)],
-            },
+            ),
+            ("in", &[(1, &HEAD), (1, &IP)]),
         ],
         failing: (0, 0),
         status: 0,
@@ -419,17 +302,14 @@ const GRAPHS: [Example; 34] = [
         name: "a hub whose other hook was cut",
         words: "3 ngctl s em0=in em1=",
         files: &[
-            Held {
-                name: "s",
-                parts: &[(
+            (
+                "s",
+                &[(
                     1,
                     b"mkpeer em0: hub lower a\nconnect em0:lower em1: b lower\nrmhook em1: lower\n",
                 )],
-            },
-            Held {
-                name: "in",
-                parts: &[(1, &HEAD), (1, &IP)],
-            },
+            ),
+            ("in", &[(1, &HEAD), (1, &IP)]),
         ],
         failing: (0, 0),
         status: 0,
@@ -441,17 +321,14 @@ const GRAPHS: [Example; 34] = [
         name: "a node that is gone",
         words: "1 ngctl s em0=in em1=",
         files: &[
-            Held {
-                name: "s",
-                parts: &[(
+            (
+                "s",
+                &[(
                     1,
                     b"mkpeer em0: hub lower a\nconnect em0:lower em1: b lower\nshutdown em0:lower\n",
                 )],
-            },
-            Held {
-                name: "in",
-                parts: &[(1, &HEAD), (1, &IP)],
-            },
+            ),
+            ("in", &[(1, &HEAD), (1, &IP)]),
         ],
         failing: (0, 0),
         status: 0,
@@ -463,17 +340,14 @@ const GRAPHS: [Example; 34] = [
         name: "up to a host by upper",
         words: "3 ngctl s em0=in em1=in",
         files: &[
-            Held {
-                name: "s",
-                parts: &[(
+            (
+                "s",
+                &[(
                     1,
                     b"mkpeer em0: hub upper a\nconnect em0:upper em1: b lower\n",
                 )],
-            },
-            Held {
-                name: "in",
-                parts: &[(1, &HEAD), (1, &IP)],
-            },
+            ),
+            ("in", &[(1, &HEAD), (1, &IP)]),
         ],
         failing: (0, 0),
         status: 0,
@@ -485,21 +359,15 @@ const GRAPHS: [Example; 34] = [
         name: "to the reader, in the order of bytes",
         words: "2 ngctl s em0=in em1=twice em2=in",
         files: &[
-            Held {
-                name: "s",
-                parts: &[(
+            (
+                "s",
+                &[(
                     1,
                     b"connect . em0: b lower\nconnect . em1: a lower\nconnect . em2: B lower\n",
                 )],
-            },
-            Held {
-                name: "in",
-                parts: &[(1, &HEAD), (1, &IP)],
-            },
-            Held {
-                name: "twice",
-                parts: &[(1, &HEAD), (1, &IP), (1, &LATER_IP)],
-            },
+            ),
+            ("in", &[(1, &HEAD), (1, &IP)]),
+            ("twice", &[(1, &HEAD), (1, &IP), (1, &LATER_IP)]),
         ],
         failing: (0, 0),
         status: 0,
@@ -511,17 +379,14 @@ const GRAPHS: [Example; 34] = [
         name: "an etf",
         words: "3 ngctl s em0=in em1= em2=",
         files: &[
-            Held {
-                name: "s",
-                parts: &[(
+            (
+                "s",
+                &[(
                     1,
                     b"mkpeer em0: etf lower downstream\nconnect em0:lower em1: ip lower\nconnect em0:lower em2: nomatch lower\nmsg em0:lower setfilter { matchhook=\"ip\" ethertype=0x800 }\n",
                 )],
-            },
-            Held {
-                name: "in",
-                parts: &[(1, &HEAD), (1, &IP), (1, &LATER_IP), (1, &ARP)],
-            },
+            ),
+            ("in", &[(1, &HEAD), (1, &IP), (1, &LATER_IP), (1, &ARP)]),
         ],
         failing: (0, 0),
         status: 0,
@@ -533,17 +398,14 @@ const GRAPHS: [Example; 34] = [
         name: "a macset",
         words: "3 ngctl s em0=in em1= em2=",
         files: &[
-            Held {
-                name: "s",
-                parts: &[(
+            (
+                "s",
+                &[(
                     1,
                     b"mkpeer em0: macset lower all\nconnect em0:lower em1: known lower\nconnect em0:lower em2: other lower\nmsg em0:lower add 02:00:00:00:00:0a\n",
                 )],
-            },
-            Held {
-                name: "in",
-                parts: &[(1, &HEAD), (1, &IP), (1, &LATER_IP)],
-            },
+            ),
+            ("in", &[(1, &HEAD), (1, &IP), (1, &LATER_IP)]),
         ],
         failing: (0, 0),
         status: 0,
@@ -555,14 +417,8 @@ const GRAPHS: [Example; 34] = [
         name: "an echo",
         words: "3 ngctl s em0=in",
         files: &[
-            Held {
-                name: "s",
-                parts: &[(1, b"mkpeer em0: echo lower a\n")],
-            },
-            Held {
-                name: "in",
-                parts: &[(1, &HEAD), (1, &IP), (1, &LATER_IP)],
-            },
+            ("s", &[(1, b"mkpeer em0: echo lower a\n")]),
+            ("in", &[(1, &HEAD), (1, &IP), (1, &LATER_IP)]),
         ],
         failing: (0, 0),
         status: 0,
@@ -574,14 +430,8 @@ const GRAPHS: [Example; 34] = [
         name: "a hole",
         words: "2 ngctl s em0=in",
         files: &[
-            Held {
-                name: "s",
-                parts: &[(1, b"mkpeer em0: hole lower a\n")],
-            },
-            Held {
-                name: "in",
-                parts: &[(1, &HEAD), (1, &IP), (1, &LATER_IP)],
-            },
+            ("s", &[(1, b"mkpeer em0: hole lower a\n")]),
+            ("in", &[(1, &HEAD), (1, &IP), (1, &LATER_IP)]),
         ],
         failing: (0, 0),
         status: 0,
@@ -593,14 +443,8 @@ const GRAPHS: [Example; 34] = [
         name: "commands at the end are not run",
         words: "3 ngctl s em0=in em1= em2=",
         files: &[
-            Held {
-                name: "s",
-                parts: &[(1, HUB), (1, b"@end\nshutdown em0:lower\n")],
-            },
-            Held {
-                name: "in",
-                parts: &[(1, &HEAD), (1, &IP), (1, &LATER_IP)],
-            },
+            ("s", &[(1, HUB), (1, b"@end\nshutdown em0:lower\n")]),
+            ("in", &[(1, &HEAD), (1, &IP), (1, &LATER_IP)]),
         ],
         failing: (0, 0),
         status: 0,
@@ -612,14 +456,8 @@ const GRAPHS: [Example; 34] = [
         name: "a quit between packets",
         words: "3 ngctl s em0=in em1= em2=",
         files: &[
-            Held {
-                name: "s",
-                parts: &[(1, HUB), (1, b"@1\nquit\n")],
-            },
-            Held {
-                name: "in",
-                parts: &[(1, &HEAD), (1, &IP), (1, &LATER_IP)],
-            },
+            ("s", &[(1, HUB), (1, b"@1\nquit\n")]),
+            ("in", &[(1, &HEAD), (1, &IP), (1, &LATER_IP)]),
         ],
         failing: (0, 0),
         status: 0,
@@ -631,14 +469,8 @@ const GRAPHS: [Example; 34] = [
         name: "a command that is refused",
         words: "3 ngctl s em0=in em1= em2=",
         files: &[
-            Held {
-                name: "s",
-                parts: &[(1, HUB), (1, b"shutdown nobody:\n")],
-            },
-            Held {
-                name: "in",
-                parts: &[(1, &HEAD), (1, &IP), (1, &LATER_IP)],
-            },
+            ("s", &[(1, HUB), (1, b"shutdown nobody:\n")]),
+            ("in", &[(1, &HEAD), (1, &IP), (1, &LATER_IP)]),
         ],
         failing: (0, 0),
         status: 0,
@@ -650,18 +482,9 @@ const GRAPHS: [Example; 34] = [
         name: "the second packet in time",
         words: "64 ngctl s em0=late em1=in",
         files: &[
-            Held {
-                name: "s",
-                parts: &[(1, b"mkpeer em0: bridge lower link0\n")],
-            },
-            Held {
-                name: "late",
-                parts: &[(1, &HEAD), (1, &LATER_IP)],
-            },
-            Held {
-                name: "in",
-                parts: &[(1, &HEAD), (1, &IP)],
-            },
+            ("s", &[(1, b"mkpeer em0: bridge lower link0\n")]),
+            ("late", &[(1, &HEAD), (1, &LATER_IP)]),
+            ("in", &[(1, &HEAD), (1, &IP)]),
         ],
         failing: (0, 0),
         status: 4,
@@ -673,14 +496,8 @@ const GRAPHS: [Example; 34] = [
         name: "the first port at one time",
         words: "64 ngctl s em0=in em1=in",
         files: &[
-            Held {
-                name: "s",
-                parts: &[(1, b"mkpeer em1: bridge lower link0\n")],
-            },
-            Held {
-                name: "in",
-                parts: &[(1, &HEAD), (1, &IP)],
-            },
+            ("s", &[(1, b"mkpeer em1: bridge lower link0\n")]),
+            ("in", &[(1, &HEAD), (1, &IP)]),
         ],
         failing: (0, 0),
         status: 4,
@@ -691,10 +508,7 @@ const GRAPHS: [Example; 34] = [
     Example {
         name: "no port and no command",
         words: "1 ngctl s",
-        files: &[Held {
-            name: "s",
-            parts: &[],
-        }],
+        files: &[("s", &[])],
         failing: (0, 0),
         status: 0,
         fault: None,

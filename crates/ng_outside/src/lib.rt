@@ -10,8 +10,6 @@ mod memory_sink;
 mod real_files;
 mod real_sink;
 mod sink;
-#[cfg(test)]
-mod tests;
 mod whole;
 mod written;
 

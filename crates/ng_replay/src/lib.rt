@@ -7,8 +7,6 @@ mod fault;
 mod judging;
 mod line;
 mod reading;
-#[cfg(test)]
-mod tests;
 mod text;
 mod top;
 

@@ -1,4 +1,4 @@
-//! Worked command lines, scripts, captures, inputs, texts and journals.
+//! Worked command lines, scripts, captures, inputs, texts and journals, and files and sinks.
 #![tactic(auto)]
 
 #[cfg(test)]
@@ -13,6 +13,8 @@ mod journals;
 mod lines;
 #[cfg(test)]
 mod made;
+#[cfg(test)]
+mod outside;
 #[cfg(test)]
 mod same;
 #[cfg(test)]

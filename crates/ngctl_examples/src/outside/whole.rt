@@ -1,6 +1,6 @@
 // A whole file of many pieces: that it comes where there is memory, and in how many calls.
 use super::memory::one_file;
-use crate::{ReadStop, read_whole};
+use ng_outside::{ReadStop, read_whole};
 use std::alloc::Global;
 use std::test::Fail;
 

@@ -1,8 +1,8 @@
 // A sink and files in memory: in how many calls all of a piece is put or written, which no clause says.
 ghost use Rattle.std.specs.Prelude.{◌≤◌, length};
 
-use crate::{Failed, MemFile, MemFiles, MemSink, put_all, write_file};
 use ng_base::NoMemory;
+use ng_outside::{Failed, MemFile, MemFiles, MemSink, put_all, write_file};
 use std::alloc::{AllocError, Global};
 use std::test::Fail;
 

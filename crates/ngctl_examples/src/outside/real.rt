@@ -1,9 +1,9 @@
 // The real ones, once.
-use crate::{
+use ng_base::{ItemId, NodeId};
+use ng_outside::{
     Failed, Files, Gate, OpenGate, ReadStop, Sink, StdFiles, StdSink, put_all, read_whole,
     write_file,
 };
-use ng_base::{ItemId, NodeId};
 use std::alloc::Global;
 use std::io::{ErrorKind, Write};
 use std::process::Abort;

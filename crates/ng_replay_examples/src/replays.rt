@@ -1,13 +1,14 @@
 // Whole replays over files and a sink in memory: the status, the text and the line of the fault.
 ghost use Rattle.ng_outside.specs.Memory.{FitRooms, NamesDiffer};
 
-use crate::{Given, ReplayFault, Replayed, ngreplay, replay_fault_line};
 use ng_base::NoMemory;
 use ng_outside::{MemFile, MemFiles, MemSink};
 use ng_pcap::CaptureFault;
+use ng_replay::{Given, ReplayFault, Replayed, ngreplay, replay_fault_line};
 use ng_stock::{stock, stock_suffices};
 use ngctl_script::ScriptFault;
 use std::alloc::{AllocError, Global};
+use std::process::Abort;
 use std::test::Fail;
 
 const USAGE: &str =
@@ -17,11 +18,7 @@ const USAGE: &str =
 const ROOM: usize = 1 << 16;
 
 // A file: its name and what it holds.
-#[derive(Clone, Copy)]
-struct Held {
-    name: &'static str,
-    text: &'static str,
-}
+type Held = (&'static str, &'static str);
 
 // Files to come, each with room to be written.
 #[derive(Drop)]
@@ -34,16 +31,14 @@ struct Shelf {
 impl Shelf {
     // Adds a file of this text.
     fn add(&mut self, alloc: Global, file: Held) -> Result<(), Fail> {
-        let is_new = self
-            .files
-            .iter()
-            .all(|other| other.name.as_str() != file.name);
+        let (name, text) = file;
+        let is_new = self.files.iter().all(|other| other.name.as_str() != name);
         if !is_new {
             return Err(Fail::new("two files of one name"));
         }
-        let bytes = Vec::from_slice(alloc, file.text.as_bytes())?;
+        let bytes = Vec::from_slice(alloc, text.as_bytes())?;
         let room = bytes.len();
-        let name = String::from_str(alloc, file.name)?;
+        let name = String::from_str(alloc, name)?;
         self.files.push(MemFile {
             name,
             bytes,
@@ -146,16 +141,7 @@ const EXAMPLES: [Example; 25] = [
     Example {
         name: "whole",
         words: "1000000 0 ngctl j s",
-        files: &[
-            Held {
-                name: "s",
-                text: SCRIPT,
-            },
-            Held {
-                name: "j",
-                text: JOURNAL,
-            },
-        ],
+        files: &[("s", SCRIPT), ("j", JOURNAL)],
         failing: (0, 0),
         status: 0,
         fault: None,
@@ -166,14 +152,8 @@ const EXAMPLES: [Example; 25] = [
         name: "without its last event",
         words: "1000000 0 ngctl j s",
         files: &[
-            Held {
-                name: "s",
-                text: SCRIPT,
-            },
-            Held {
-                name: "j",
-                text: "ngjournal 1\nF\nT 1 0\nA 1\nF\nT 2 0\nA 2\nT 3 0\n",
-            },
+            ("s", SCRIPT),
+            ("j", "ngjournal 1\nF\nT 1 0\nA 1\nF\nT 2 0\nA 2\nT 3 0\n"),
         ],
         failing: (0, 0),
         status: 3,
@@ -185,14 +165,11 @@ const EXAMPLES: [Example; 25] = [
         name: "two events swapped",
         words: "1000000 0 ngctl j s",
         files: &[
-            Held {
-                name: "s",
-                text: SCRIPT,
-            },
-            Held {
-                name: "j",
-                text: "ngjournal 1\nF\nT 1 0\nA 1\nF\nT 2 0\nT 3 0\nA 2\nA 3\n",
-            },
+            ("s", SCRIPT),
+            (
+                "j",
+                "ngjournal 1\nF\nT 1 0\nA 1\nF\nT 2 0\nT 3 0\nA 2\nA 3\n",
+            ),
         ],
         failing: (0, 0),
         status: 3,
@@ -204,14 +181,11 @@ const EXAMPLES: [Example; 25] = [
         name: "a number that begins with 0",
         words: "1000000 0 ngctl j s",
         files: &[
-            Held {
-                name: "s",
-                text: SCRIPT,
-            },
-            Held {
-                name: "j",
-                text: "ngjournal 1\nF\nT 01 0\nA 1\nF\nT 2 0\nA 2\nT 3 0\nA 3\n",
-            },
+            ("s", SCRIPT),
+            (
+                "j",
+                "ngjournal 1\nF\nT 01 0\nA 1\nF\nT 2 0\nA 2\nT 3 0\nA 3\n",
+            ),
         ],
         failing: (0, 0),
         status: 65,
@@ -222,16 +196,7 @@ const EXAMPLES: [Example; 25] = [
     Example {
         name: "an empty journal",
         words: "1000000 0 ngctl j s",
-        files: &[
-            Held {
-                name: "s",
-                text: SCRIPT,
-            },
-            Held {
-                name: "j",
-                text: "",
-            },
-        ],
+        files: &[("s", SCRIPT), ("j", "")],
         failing: (0, 0),
         status: 65,
         fault: Some(ReplayFault::Journal(1)),
@@ -242,14 +207,8 @@ const EXAMPLES: [Example; 25] = [
         name: "no LF at the end",
         words: "1000000 0 ngctl j s",
         files: &[
-            Held {
-                name: "s",
-                text: SCRIPT,
-            },
-            Held {
-                name: "j",
-                text: "ngjournal 1\nF\nT 1 0\nA 1\nF\nT 2 0\nA 2\nT 3 0\nA 3",
-            },
+            ("s", SCRIPT),
+            ("j", "ngjournal 1\nF\nT 1 0\nA 1\nF\nT 2 0\nA 2\nT 3 0\nA 3"),
         ],
         failing: (0, 0),
         status: 65,
@@ -260,16 +219,7 @@ const EXAMPLES: [Example; 25] = [
     Example {
         name: "two blanks",
         words: "1000000 0 ngctl j s",
-        files: &[
-            Held {
-                name: "s",
-                text: SCRIPT,
-            },
-            Held {
-                name: "j",
-                text: "ngjournal 1\nF\nT  1 0\nA 1\n",
-            },
-        ],
+        files: &[("s", SCRIPT), ("j", "ngjournal 1\nF\nT  1 0\nA 1\n")],
         failing: (0, 0),
         status: 65,
         fault: Some(ReplayFault::Journal(3)),
@@ -279,16 +229,7 @@ const EXAMPLES: [Example; 25] = [
     Example {
         name: "a sign",
         words: "1000000 0 ngctl j s",
-        files: &[
-            Held {
-                name: "s",
-                text: SCRIPT,
-            },
-            Held {
-                name: "j",
-                text: "ngjournal 1\nF\nT +1 0\nA 1\n",
-            },
-        ],
+        files: &[("s", SCRIPT), ("j", "ngjournal 1\nF\nT +1 0\nA 1\n")],
         failing: (0, 0),
         status: 65,
         fault: Some(ReplayFault::Journal(3)),
@@ -299,14 +240,8 @@ const EXAMPLES: [Example; 25] = [
         name: "2^64",
         words: "1000000 0 ngctl j s",
         files: &[
-            Held {
-                name: "s",
-                text: SCRIPT,
-            },
-            Held {
-                name: "j",
-                text: "ngjournal 1\nF\nT 18446744073709551616 0\n",
-            },
+            ("s", SCRIPT),
+            ("j", "ngjournal 1\nF\nT 18446744073709551616 0\n"),
         ],
         failing: (0, 0),
         status: 65,
@@ -317,16 +252,7 @@ const EXAMPLES: [Example; 25] = [
     Example {
         name: "the first of two bad lines",
         words: "1000000 0 ngctl j s",
-        files: &[
-            Held {
-                name: "s",
-                text: SCRIPT,
-            },
-            Held {
-                name: "j",
-                text: "ngjournal 1\nF\nT\nA\n",
-            },
-        ],
+        files: &[("s", SCRIPT), ("j", "ngjournal 1\nF\nT\nA\n")],
         failing: (0, 0),
         status: 65,
         fault: Some(ReplayFault::Journal(3)),
@@ -337,14 +263,8 @@ const EXAMPLES: [Example; 25] = [
         name: "a stop before the limit",
         words: "3 0 ngctl j s",
         files: &[
-            Held {
-                name: "s",
-                text: SCRIPT,
-            },
-            Held {
-                name: "j",
-                text: "ngjournal 1\nF\nT 1 0\nA 1\nF\nT 2 0\nA 2\nS\n",
-            },
+            ("s", SCRIPT),
+            ("j", "ngjournal 1\nF\nT 1 0\nA 1\nF\nT 2 0\nA 2\nS\n"),
         ],
         failing: (0, 0),
         status: 3,
@@ -356,14 +276,8 @@ const EXAMPLES: [Example; 25] = [
         name: "an event after a stop",
         words: "2 0 ngctl j s",
         files: &[
-            Held {
-                name: "s",
-                text: SCRIPT,
-            },
-            Held {
-                name: "j",
-                text: "ngjournal 1\nF\nT 1 0\nA 1\nF\nT 2 0\nA 2\nS\nS\n",
-            },
+            ("s", SCRIPT),
+            ("j", "ngjournal 1\nF\nT 1 0\nA 1\nF\nT 2 0\nA 2\nS\nS\n"),
         ],
         failing: (0, 0),
         status: 3,
@@ -375,14 +289,11 @@ const EXAMPLES: [Example; 25] = [
         name: "a seat more than there are",
         words: "1000000 0 ngctl j s",
         files: &[
-            Held {
-                name: "s",
-                text: SCRIPT,
-            },
-            Held {
-                name: "j",
-                text: "ngjournal 1\nF\nT 1 1\nA 1\nF\nT 2 1\nA 2\nT 3 0\nA 3\n",
-            },
+            ("s", SCRIPT),
+            (
+                "j",
+                "ngjournal 1\nF\nT 1 1\nA 1\nF\nT 2 1\nA 2\nT 3 0\nA 3\n",
+            ),
         ],
         failing: (0, 0),
         status: 3,
@@ -394,14 +305,8 @@ const EXAMPLES: [Example; 25] = [
         name: "a stop at the limit",
         words: "2 0 ngctl j s",
         files: &[
-            Held {
-                name: "s",
-                text: SCRIPT,
-            },
-            Held {
-                name: "j",
-                text: "ngjournal 1\nF\nT 1 0\nA 1\nF\nT 2 0\nA 2\nS\n",
-            },
+            ("s", SCRIPT),
+            ("j", "ngjournal 1\nF\nT 1 0\nA 1\nF\nT 2 0\nA 2\nS\n"),
         ],
         failing: (0, 0),
         status: 0,
@@ -419,14 +324,11 @@ graph: nodes 2, hooks 2
         name: "three seats, and an item that is put back",
         words: "1000000 2 ngctl j s",
         files: &[
-            Held {
-                name: "s",
-                text: SCRIPT,
-            },
-            Held {
-                name: "j",
-                text: "ngjournal 1\nF\nT 1 2\nA 1\nF\nT 2 1\nB 2\nT 2 0\nA 2\nT 3 1\nA 3\n",
-            },
+            ("s", SCRIPT),
+            (
+                "j",
+                "ngjournal 1\nF\nT 1 2\nA 1\nF\nT 2 1\nB 2\nT 2 0\nA 2\nT 3 1\nA 3\n",
+            ),
         ],
         failing: (0, 0),
         status: 0,
@@ -457,10 +359,7 @@ graph: nodes 2, hooks 2
     Example {
         name: "no script",
         words: "1000000 0 ngctl j s",
-        files: &[Held {
-            name: "j",
-            text: JOURNAL,
-        }],
+        files: &[("j", JOURNAL)],
         failing: (0, 0),
         status: 66,
         fault: Some(ReplayFault::ReadFault(Given::Script)),
@@ -470,10 +369,7 @@ graph: nodes 2, hooks 2
     Example {
         name: "no journal, and a script that is not in form",
         words: "1000000 0 ngctl j s",
-        files: &[Held {
-            name: "s",
-            text: "@ list\n",
-        }],
+        files: &[("s", "@ list\n")],
         failing: (0, 0),
         status: 65,
         fault: Some(ReplayFault::Script(ScriptFault::BadMark(1))),
@@ -483,10 +379,7 @@ graph: nodes 2, hooks 2
     Example {
         name: "no journal",
         words: "1000000 0 ngctl j s",
-        files: &[Held {
-            name: "s",
-            text: SCRIPT,
-        }],
+        files: &[("s", SCRIPT)],
         failing: (0, 0),
         status: 66,
         fault: Some(ReplayFault::ReadFault(Given::Journal)),
@@ -496,16 +389,7 @@ graph: nodes 2, hooks 2
     Example {
         name: "no capture",
         words: "1000000 0 ngctl j s em0=in",
-        files: &[
-            Held {
-                name: "s",
-                text: SCRIPT,
-            },
-            Held {
-                name: "j",
-                text: "",
-            },
-        ],
+        files: &[("s", SCRIPT), ("j", "")],
         failing: (0, 0),
         status: 66,
         fault: Some(ReplayFault::ReadFault(Given::Capture(0))),
@@ -515,20 +399,7 @@ graph: nodes 2, hooks 2
     Example {
         name: "a capture that is not in form",
         words: "1000000 0 ngctl j s em0=in",
-        files: &[
-            Held {
-                name: "s",
-                text: SCRIPT,
-            },
-            Held {
-                name: "j",
-                text: "",
-            },
-            Held {
-                name: "in",
-                text: "",
-            },
-        ],
+        files: &[("s", SCRIPT), ("j", ""), ("in", "")],
         failing: (0, 0),
         status: 65,
         fault: Some(ReplayFault::Capture {
@@ -541,16 +412,7 @@ graph: nodes 2, hooks 2
     Example {
         name: "a port that receives nothing",
         words: "1000000 0 ngctl j s em0=",
-        files: &[
-            Held {
-                name: "s",
-                text: SCRIPT,
-            },
-            Held {
-                name: "j",
-                text: JOURNAL,
-            },
-        ],
+        files: &[("s", SCRIPT), ("j", JOURNAL)],
         failing: (0, 0),
         status: 0,
         fault: None,
@@ -569,16 +431,7 @@ port em0: in 0, left 0, up 0
     Example {
         name: "the sink fails at once",
         words: "1000000 0 ngctl j s",
-        files: &[
-            Held {
-                name: "s",
-                text: SCRIPT,
-            },
-            Held {
-                name: "j",
-                text: JOURNAL,
-            },
-        ],
+        files: &[("s", SCRIPT), ("j", JOURNAL)],
         failing: (0, 1),
         status: 74,
         fault: Some(ReplayFault::WriteFault),
@@ -588,16 +441,7 @@ port em0: in 0, left 0, up 0
     Example {
         name: "the sink fails at its third put",
         words: "1000000 0 ngctl j s",
-        files: &[
-            Held {
-                name: "s",
-                text: SCRIPT,
-            },
-            Held {
-                name: "j",
-                text: JOURNAL,
-            },
-        ],
+        files: &[("s", SCRIPT), ("j", JOURNAL)],
         failing: (0, 3),
         status: 74,
         fault: Some(ReplayFault::WriteFault),
@@ -608,25 +452,22 @@ port em0: in 0, left 0, up 0
     },
 ];
 
+// What comes of it is what the example says.
+fn check(rt: &impl Abort, alloc: Global, example: &Example) -> Result<(), Fail> {
+    let came = replay(alloc, example)?;
+    assert_eq!(rt; came.replayed.fault, example.fault, "{}", example.name);
+    assert_eq!(rt; came.replayed.status, example.status, "{}", example.name);
+    let text = str::from_utf8(came.out.bytes())?;
+    assert_eq!(rt; text, example.text, "{}", example.name);
+    let line = str::from_utf8(&came.line)?;
+    assert_eq!(rt; line, example.told, "{}", example.name);
+    Ok(())
+}
+
 #[test]
 fn journals_are_replayed(rt: HostRuntime) -> Result<(), Fail> {
-    let alloc = rt.alloc();
     for example in &EXAMPLES {
-        let came = replay(alloc, example)?;
-        assert_eq!(rt; came.replayed.fault, example.fault, "{}", example.name);
-        assert_eq!(rt; came.replayed.status, example.status, "{}", example.name);
-        assert_eq!(rt;
-            str::from_utf8(came.out.bytes())?,
-            example.text,
-            "{}",
-            example.name
-        );
-        assert_eq!(rt;
-            str::from_utf8(&came.line)?,
-            example.told,
-            "{}",
-            example.name
-        );
+        check(&rt, rt.alloc(), example)?;
     }
     Ok(())
 }

@@ -1,4 +1,0 @@
-// What no clause says: how many calls there are, that calls succeed where there is memory, and the real ones.
-mod memory;
-mod real;
-mod whole;

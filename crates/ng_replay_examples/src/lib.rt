@@ -1,0 +1,5 @@
+//! Worked replays.
+#![tactic(auto)]
+
+#[cfg(test)]
+mod replays;
