@@ -1,2 +1,3 @@
 pub mod NodesStay
 pub mod AtHands
+pub use Rattle.ng_orders.proofs.Lists

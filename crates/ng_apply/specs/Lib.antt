@@ -1,1 +1,2 @@
 pub mod AtHand
+pub use Rattle.ng_removal.specs.Removals

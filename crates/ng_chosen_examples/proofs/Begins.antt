@@ -10,8 +10,8 @@ use Rattle.ng_machine.specs.Feed.{Request, RefusedFor, Helps, Nothing, Orders, A
 use Rattle.ng_machine.specs.KnownRun.{FitsInput, FitsRequest}
 use Rattle.ng_machine.specs.Refusal.{is_command}
 use Rattle.ng_machine.specs.Words.{Every, times}
-use Rattle.ng_seats.specs.Beginning.{begun_core}
-use Rattle.ng_seats.specs.CoreStory.{story}
+use Rattle.ng_pool.specs.Beginning.{begun_core}
+use Rattle.ng_pool.specs.CoreStory.{story}
 use Rattle.ng_story.specs.Story.{AreFitFor, has_ended}
 use Rattle.ng_chosen_examples.specs.Fit.{fits_input, fits_request}
 

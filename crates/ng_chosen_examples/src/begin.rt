@@ -5,7 +5,7 @@ ghost use Rattle.ng_base.specs.declared.kind.Kind.TheVariants as kind;
 ghost use Rattle.ng_chosen_examples.specs.Fit.{fits_input};
 ghost use Rattle.ng_chosen_examples.specs.Stock.{stocked, stocked_with_dealers};
 ghost use Rattle.ng_machine.specs.State.{blank_of, kind_of};
-ghost use Rattle.ng_seats.specs.Calls.{are_different};
+ghost use Rattle.ng_pool.specs.Calls.{are_different};
 
 use crate::accounts::are_accounted;
 use crate::fitting::all_fit;
@@ -17,8 +17,7 @@ use ng_judge::{Verdict, judge};
 use ng_machine::{Input, Totals};
 use ng_node::Node;
 use ng_outside::Gate;
-use ng_pool::{Move, chosen, plain};
-use ng_seats::Core;
+use ng_pool::{Core, Move, chosen, plain};
 use ng_simple_types::{blank_echo, blank_hole, blank_hub};
 use ng_workers::run_workers;
 use std::alloc::Global;

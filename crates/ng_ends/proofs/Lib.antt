@@ -1,4 +1,5 @@
 pub mod Counts
 pub mod Lists
+pub mod Sorts
 pub mod Rows
 pub mod Each

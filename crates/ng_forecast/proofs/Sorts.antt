@@ -7,20 +7,21 @@ use Rattle.ng_base.specs.declared.event.Event.{Event}
 use Rattle.ng_machine.specs.World.{World, NodeRecord}
 use Rattle.ng_machine.specs.Spread.{Flight, Spread, spread_in}
 use Rattle.ng_pcap.specs.declared.fault.CaptureFault.{CaptureFault}
-use Rattle.ng_pcap.specs.Reading.{capture_of}
 use Rattle.ng_spread.specs.Met.{met_in}
 use Rattle.ng_spread.specs.Weight.{weight}
 use Rattle.ngctl_script.specs.declared.fault.ScriptFault.{ScriptFault}
-use Rattle.ngctl_script.specs.Script.{commands_of, script_fault}
+use Rattle.ngctl_script.specs.Script.{commands_of}
 use Rattle.ng_words.specs.declared.port.PortWord.{PortWord}
 use Rattle.ng_words.specs.declared.words.ForecastWords.{ForecastWords}
 use Rattle.ng_ends.specs.Causes.{FailsReading, NoneChecked, NoneReads}
 use Rattle.ng_ends.specs.Outside.{Outside, FileRose}
 use Rattle.ng_ends.specs.Steps.{Step, Reads, Checks}
+use Rattle.ng_ends.proofs.Sorts.{both_checked, both_reads, if_checked, map_checked}
 use Rattle.ng_run.specs.Found.{Found}
 use Rattle.ng_run.specs.Line.{in_name}
-use Rattle.ng_run.specs.Steps.{script_steps, capture_steps, fault_in, most_bytes, most_packets, most_script, packets_in}
+use Rattle.ng_run.specs.Steps.{script_steps, capture_steps, packets_in}
 use Rattle.ng_run.specs.Writes.{is_stopped}
+use Rattle.ng_run.proofs.GivenSorts.{AreElse as AreGivenElse, captures_checked, captures_read, script_checked}
 use Rattle.ng_forecast.specs.declared.ended.ForecastFault.{ForecastFault}
 use Rattle.ng_forecast.specs.declared.ended.ForecastFault.TheVariants.{Script, Capture, TooBig, ReadFault, Moving, Restless, Wide, Undefined, Big}
 use Rattle.ng_forecast.specs.declared.ended.Source.{Source}
@@ -32,22 +33,6 @@ use Rattle.ng_forecast.specs.Steps.{flights_in, forecast_steps, late_steps, name
 
 module _ (P : ForecastFault → Type 0) where
   -- What is looked for
-
-  both_checked : (a b : List (Step ForecastFault)) → NoneChecked P a → NoneChecked P b → NoneChecked P (a ++ b)
-  both_checked [] b first second = second
-  both_checked (Reads name failed ∷ a) b first second = both_checked a b first second
-  both_checked (Checks None ∷ a) b first second = both_checked a b first second
-  both_checked (Checks (Some found) ∷ a) b first second = (first.0, both_checked a b first.1 second)
-
-  if_checked : (test : Bool) (fault : ForecastFault) (rest : List (Step ForecastFault)) → (P fault → ⊥) → NoneChecked P rest
-      → NoneChecked P (Checks (if test then Some fault else None) ∷ rest)
-  if_checked true fault rest nope later = (nope, later)
-  if_checked false fault rest nope later = later
-
-  map_checked : {X : Type 0} (x : Option X) (make : X → ForecastFault) (rest : List (Step ForecastFault)) → ((y : X) → P (make y) → ⊥)
-      → NoneChecked P rest → NoneChecked P (Checks (option_map make x) ∷ rest)
-  map_checked None make rest nope later = later
-  map_checked (Some y) make rest nope later = (nope y, later)
 
   -- the faults that are looked for
   pub record AreElse : Type 0 where
@@ -70,30 +55,22 @@ module _ (P : ForecastFault → Type 0) where
   else_checked (Some fault) is = (is, tt)
 
   module _ (E : AreElse) where
-    captures_checked : (p bytes packets : ℕ) (ports : List PortWord) (captures : List (Option (List ℕ)))
-        → NoneChecked P (capture_steps names p bytes packets ports captures)
-    captures_checked p bytes packets [] captures = tt
-    captures_checked p bytes packets (port ∷ ports) [] = tt
-    captures_checked p bytes packets (port ∷ ports) (None ∷ captures) = captures_checked (p + 1) bytes packets ports captures
-    captures_checked p bytes packets (port ∷ ports) (Some held ∷ captures) =
-        if_checked (nat_lt most_bytes (bytes + length held)) (TooBig (of.Capture p)) _ (E.big (of.Capture p))
-        (map_checked (fault_in (capture_of held)) (names.wrong_capture p) _ (E.capture p)
-        (if_checked (nat_lt most_packets (packets + packets_in held)) (TooBig (of.Capture p)) _ (E.big (of.Capture p))
-        (captures_checked (p + 1) (bytes + length held) (packets + packets_in held) ports captures)))
-
-    script_checked : (file bytes : List ℕ) → NoneChecked P (script_steps names file bytes)
-    script_checked file bytes =
-        if_checked (nat_lt most_script (length bytes)) (TooBig of.Script) _ (E.big of.Script)
-        (map_checked (script_fault bytes) names.wrong_script [] E.script tt)
+    given_else : AreGivenElse P names
+    given_else = record {
+      big_script = E.big of.Script;
+      wrong_script = E.script;
+      big_capture = λ port. E.big (of.Capture port);
+      wrong_capture = E.capture;
+    }
 
     read_checked : (words : ForecastWords) (found : Found) → NoneChecked P (read_steps words found)
     read_checked words found =
-        both_checked (script_steps names words.script found.script ++ Checks (option_map (λ command. Moving command) (moving (commands_of found.script))) ∷ [])
+        both_checked P (script_steps names words.script found.script ++ Checks (option_map (λ command. Moving command) (moving (commands_of found.script))) ∷ [])
         (capture_steps names 0 0 0 words.ports found.captures)
-        (both_checked (script_steps names words.script found.script) (Checks (option_map (λ command. Moving command) (moving (commands_of found.script))) ∷ [])
-        (script_checked words.script found.script)
-        (map_checked (moving (commands_of found.script)) (λ command. Moving command) [] E.moving tt))
-        (captures_checked 0 0 0 words.ports found.captures)
+        (both_checked P (script_steps names words.script found.script) (Checks (option_map (λ command. Moving command) (moving (commands_of found.script))) ∷ [])
+        (script_checked P names given_else words.script found.script)
+        (map_checked P (moving (commands_of found.script)) (λ command. Moving command) [] E.moving tt))
+        (captures_checked P names given_else 0 0 0 words.ports found.captures)
 
     -- the fault of a packet, where those of the others are none of these
 
@@ -120,30 +97,17 @@ module _ (P : ForecastFault → Type 0) where
 
     pub none_checked : (w : World) (journal : List Event) (words : ForecastWords) (found : Found) → NoneChecked P (forecast_steps w journal words found)
     none_checked w journal words found =
-        both_checked (read_steps words found) (late_steps w journal words.hops (flights_in found)) (read_checked words found)
-        (if_checked (is_stopped journal) Restless (Checks (packet_fault w.nodes words.hops (flights_in found)) ∷ []) E.restless
+        both_checked P (read_steps words found) (late_steps w journal words.hops (flights_in found)) (read_checked words found)
+        (if_checked P (is_stopped journal) Restless (Checks (packet_fault w.nodes words.hops (flights_in found)) ∷ []) E.restless
         (else_checked (packet_fault w.nodes words.hops (flights_in found)) (from_else w.nodes words.hops (flights_in found) no_tally)))
 
   -- What is read
 
-  both_reads : (a b : List (Step ForecastFault)) → NoneReads P a → NoneReads P b → NoneReads P (a ++ b)
-  both_reads [] b first second = second
-  both_reads (Reads name failed ∷ a) b first second = (first.0, both_reads a b first.1 second)
-  both_reads (Checks found ∷ a) b first second = both_reads a b first second
-
   module _ (unread : (source : Source) → P (ReadFault source) → ⊥) where
-    captures_read : (p bytes packets : ℕ) (ports : List PortWord) (captures : List (Option (List ℕ)))
-        → NoneReads P (capture_steps names p bytes packets ports captures)
-    captures_read p bytes packets [] captures = tt
-    captures_read p bytes packets (port ∷ ports) [] = tt
-    captures_read p bytes packets (port ∷ ports) (None ∷ captures) = captures_read (p + 1) bytes packets ports captures
-    captures_read p bytes packets (port ∷ ports) (Some held ∷ captures) =
-        (unread (of.Capture p), captures_read (p + 1) (bytes + length held) (packets + packets_in held) ports captures)
-
     pub none_read : (w : World) (journal : List Event) (words : ForecastWords) (found : Found) → NoneReads P (forecast_steps w journal words found)
     none_read w journal words found =
-        both_reads (read_steps words found) (late_steps w journal words.hops (flights_in found))
-        (unread of.Script, captures_read 0 0 0 words.ports found.captures) tt
+        both_reads P (read_steps words found) (late_steps w journal words.hops (flights_in found))
+        (unread of.Script, captures_read P names (λ port. unread (of.Capture port)) 0 0 0 words.ports found.captures) tt
 
 -- The file whose read failed
 

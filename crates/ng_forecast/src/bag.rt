@@ -11,8 +11,7 @@ use ng_base::{NoMemory, Packet, Sequence};
 use ng_feed::Arrival;
 use ng_machine::Place;
 use ng_node::Node;
-use ng_seats::Still;
-use ng_spread::{Flight, Followed, Trail, follow};
+use ng_spread::{Flight, Followed, Still, Trail, follow};
 use std::alloc::Global;
 
 // So many packets are met at the most.

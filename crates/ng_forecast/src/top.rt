@@ -5,7 +5,7 @@ ghost use Rattle.ng_base.specs.declared.kind.Kind.{Kind};
 ghost use Rattle.ng_machine.specs.State.{kind_of};
 ghost use Rattle.ng_outside.specs.Contents.{Contents};
 ghost use Rattle.ng_machine.specs.Spread.{spread_all, spread_in};
-ghost use Rattle.ng_seats.specs.CoreStory.{story};
+ghost use Rattle.ng_run.specs.CoreStory.{story};
 ghost use Rattle.ng_story.specs.Story.{world_of};
 ghost use Rattle.ng_forecast.specs.Packets.{packet_fault};
 ghost use Rattle.ng_forecast.specs.declared.ended.ForecastFault.TheVariants.{NoMemory as no_memory};
@@ -27,8 +27,7 @@ use ng_base::Sequence;
 use ng_node::Node;
 use ng_outside::{Files, Sink, put_all};
 use ng_pcap::Capture;
-use ng_run::is_stopped;
-use ng_seats::Core;
+use ng_run::{Core, is_stopped};
 use ng_words::{ForecastWords, read_forecast_words};
 use std::alloc::Global;
 

@@ -9,7 +9,7 @@ use Rattle.ng_machine.specs.Laws.{start}
 use Rattle.ng_machine.specs.Orderly.{IsQuiet, IsWhole}
 use Rattle.ng_machine.specs.Run.{RunState}
 use Rattle.ng_machine.specs.Words.{first_refusal}
-use Rattle.ng_seats.proofs.OpenStories.{open_story}
+use Rattle.ng_pool.proofs.OpenStories.{open_story}
 use Rattle.ng_story.specs.Closing.{close_refusal, closed_with, is_spent, refusal_below, stopped_if, stops}
 use Rattle.ng_story.specs.SoundStory.{IsSoundStory}
 use Rattle.ng_story.specs.Story.{Story, has_ended, world_of}

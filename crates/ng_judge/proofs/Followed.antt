@@ -11,7 +11,7 @@ use Rattle.ng_machine.specs.Laws.{Setting, start}
 use Rattle.ng_machine.specs.Run.{RunState, after, beginning}
 use Rattle.ng_machine.proofs.Ordering.{after-append}
 use Rattle.ng_pool.specs.Feeding.{IsFed}
-use Rattle.ng_seats.proofs.OpenStories.{open_story}
+use Rattle.ng_pool.proofs.OpenStories.{open_story}
 use Rattle.ng_story.specs.SoundStory.{IsSoundStory}
 use Rattle.ng_story.specs.Story.{MayFollow, Story, begun, follow_if, has_ended, run_state_of, with_event, with_input}
 use Rattle.ng_story.proofs.MoreInputs.{same_run}

@@ -21,7 +21,7 @@ use Rattle.ng_machine.proofs.Held.{taken_once}
 use Rattle.ng_machine.proofs.Ordering.{orderly_back}
 use Rattle.ng_pool.specs.Feeding.{IsUnfed}
 use Rattle.ng_pool.specs.Held.{HoldsJobs, held_at, held_job}
-use Rattle.ng_seats.proofs.OpenStories.{open_story}
+use Rattle.ng_pool.proofs.OpenStories.{open_story}
 use Rattle.ng_story.specs.Closing.{is_spent}
 use Rattle.ng_story.specs.Desks.{IsJobNow, story_job}
 use Rattle.ng_story.specs.SoundStory.{IsSoundStory}

@@ -1,12 +1,12 @@
 // How a core is closed.
 ghost use Rattle.std.specs.Prelude.{◌≡◌, ◌⊎◌, ◌<◌, true, false, length, Some, IfSome, IfNone};
-ghost use Rattle.ng_seats.specs.CoreStory.{story};
+ghost use Rattle.ng_pool.specs.CoreStory.{story};
 ghost use Rattle.ng_story.specs.Closing.{is_spent, stops, stopped_if};
 ghost use Rattle.ng_story.specs.Story.{has_ended, world_of};
 ghost use Rattle.ng_judge.specs.Following.{HasRest};
 
 use ng_node::Node;
-use ng_seats::Core;
+use ng_pool::Core;
 
 /// Closes a core where so many inputs are unfed: whether it stopped then. `None` where it isn't closed: below the limit of
 /// applied items something is pending or unfed.

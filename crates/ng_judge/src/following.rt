@@ -6,7 +6,7 @@ ghost use Rattle.ng_judge.specs.Following.{Follows, Goes, HoldsWhileOpen, Refuse
 ghost use Rattle.ng_machine.specs.Desk.{Idle};
 ghost use Rattle.ng_machine.specs.KnownRun.{AreFit};
 ghost use Rattle.ng_pool.specs.Held.{HoldsJobs, held_at};
-ghost use Rattle.ng_seats.specs.CoreStory.{setting_of, story};
+ghost use Rattle.ng_pool.specs.CoreStory.{setting_of, story};
 ghost use Rattle.ng_story.specs.Desks.{Others, story_job};
 ghost use Rattle.ng_story.specs.SoundStory.{IsSoundStory};
 ghost use Rattle.ng_story.specs.Story.{AreFitFor, has_ended, with_event};
@@ -15,8 +15,7 @@ ghost use Rattle.ng_world.specs.Handed.{item_of, job_with};
 use crate::closing::close;
 use ng_base::{Event, ItemId, NoMemory};
 use ng_node::Node;
-use ng_pool::{Unfed, work};
-use ng_seats::Core;
+use ng_pool::{Core, Unfed, work};
 use ng_world::Work;
 use std::alloc::Global;
 

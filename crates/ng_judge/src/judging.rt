@@ -7,7 +7,7 @@ ghost use Rattle.ng_judge.specs.declared.verdict.Verdict.TheVariants.{Yes};
 ghost use Rattle.ng_machine.specs.Laws.{start};
 ghost use Rattle.ng_machine.specs.Orderly.{IsWhole};
 ghost use Rattle.ng_pool.specs.Held.{held_at};
-ghost use Rattle.ng_seats.specs.CoreStory.{setting_of, story};
+ghost use Rattle.ng_pool.specs.CoreStory.{setting_of, story};
 ghost use Rattle.ng_story.specs.Story.{AreFitFor, begun};
 
 use crate::Verdict;
@@ -17,8 +17,7 @@ use ng_base::NoMemory;
 use ng_events::Journal;
 use ng_machine::Input;
 use ng_node::Node;
-use ng_pool::Unfed;
-use ng_seats::Core;
+use ng_pool::{Core, Unfed};
 use ng_world::Work;
 use std::alloc::Global;
 

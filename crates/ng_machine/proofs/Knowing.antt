@@ -141,6 +141,28 @@ knows_more B C c ports w le K = record {
   left = K.left;
 }
 
+-- what stands under a number stays of its kind where a node of the same kind is set, and where one is retired
+
+pub kind_set : (is_of : Kind) (nodes : List (Option NodeRecord)) (at n : ℕ) (old now : NodeRecord) → get nodes at ≡ Some old → kind_at now ≡ kind_at old → OnKind n is_of nodes → OnKind n is_of (set nodes at (Some now))
+kind_set is_of nodes at n old now is kind on = record {
+  within = still_given nodes at n (Some now) on.within;
+  kind = λ node here. ⊎_elim
+      (λ (e : n ≡ at).
+      let same : node ≡ now = same_row node now (sym here ∙ ap (get (set nodes at (Some now))) e ∙ get_here nodes at (Some now) (given_number nodes at old is)) in
+      ap kind_at same ∙ kind ∙ on.kind old (ap (get nodes) e ∙ is))
+      (λ (a : n ≢ at). on.kind node (sym (get_apart nodes at n (Some now) a) ∙ here))
+      (cases_eq n at);
+}
+
+pub kind_retire : (is_of : Kind) (nodes : List (Option NodeRecord)) (at n : ℕ) → OnKind n is_of nodes → OnKind n is_of (set nodes at None)
+kind_retire is_of nodes at n on = record {
+  within = still_given nodes at n None on.within;
+  kind = λ node here. ⊎_elim
+      (λ (e : n ≡ at). absurd (some_none node (sym here ∙ ap (get (set nodes at None)) e ∙ get_gone nodes at)))
+      (λ (a : n ≢ at). on.kind node (sym (get_apart nodes at n None a) ∙ here))
+      (cases_eq n at);
+}
+
 module _ (B c ports : ℕ) where
   abbrev Known : World → Type 0
   Known w = Knows B c ports w
@@ -229,26 +251,6 @@ module _ (B c ports : ℕ) where
 
   -- nodes
 
-  ether_set : (nodes : List (Option NodeRecord)) (at n : ℕ) (old now : NodeRecord) → get nodes at ≡ Some old → kind_at now ≡ kind_at old → OnKind n Ether nodes → OnKind n Ether (set nodes at (Some now))
-  ether_set nodes at n old now is kind on = record {
-    within = still_given nodes at n (Some now) on.within;
-    kind = λ node here. ⊎_elim
-        (λ (e : n ≡ at).
-        let same : node ≡ now = same_row node now (sym here ∙ ap (get (set nodes at (Some now))) e ∙ get_here nodes at (Some now) (given_number nodes at old is)) in
-        ap kind_at same ∙ kind ∙ on.kind old (ap (get nodes) e ∙ is))
-        (λ (a : n ≢ at). on.kind node (sym (get_apart nodes at n (Some now) a) ∙ here))
-        (cases_eq n at);
-  }
-
-  ether_retire : (nodes : List (Option NodeRecord)) (at n : ℕ) → OnKind n Ether nodes → OnKind n Ether (set nodes at None)
-  ether_retire nodes at n on = record {
-    within = still_given nodes at n None on.within;
-    kind = λ node here. ⊎_elim
-        (λ (e : n ≡ at). absurd (some_none node (sym here ∙ ap (get (set nodes at None)) e ∙ get_gone nodes at)))
-        (λ (a : n ≢ at). on.kind node (sym (get_apart nodes at n None a) ∙ here))
-        (cases_eq n at);
-  }
-
   known_sets : (w : World) (at : NodeId) (node now : NodeRecord) (o : Option NodeRecord) → node_at w at ≡ o → PeersBelow B now → kind_at now ≡ kind_at node → OnKind at.0 (kind_at node) w.nodes
       → Known w → Known (set_node w at now (is_some o))
   known_sets w at node now None is peers kind on K = K
@@ -263,9 +265,9 @@ module _ (B c ports : ℕ) where
             (λ (a : n ≢ at.0). K.peers n x (sym (get_apart w.nodes at.0 n (Some now) a) ∙ here))
             (cases_eq n at.0);
         speaks = K.speaks;
-        wires = λ p h. wire_on w.nodes (set w.nodes at.0 (Some now)) p.to.0 p.body (ether_set w.nodes at.0 p.to.0 old now is same) (K.wires p h);
+        wires = λ p h. wire_on w.nodes (set w.nodes at.0 (Some now)) p.to.0 p.body (kind_set Ether w.nodes at.0 p.to.0 old now is same) (K.wires p h);
         packets = K.packets;
-        ethers = λ n lt. ether_set w.nodes at.0 (n + 2) old now is same (K.ethers n lt);
+        ethers = λ n lt. kind_set Ether w.nodes at.0 (n + 2) old now is same (K.ethers n lt);
         told = K.told;
         left = K.left;
       }
@@ -296,9 +298,9 @@ module _ (B c ports : ℕ) where
             (λ (a : n ≢ at.0). K.peers n x (sym (get_apart w.nodes at.0 n None a) ∙ here))
             (cases_eq n at.0);
         speaks = λ p h. K.speaks p (still p h);
-        wires = λ p h. wire_on w.nodes (set w.nodes at.0 None) p.to.0 p.body (ether_retire w.nodes at.0 p.to.0) (K.wires p (still p h));
+        wires = λ p h. wire_on w.nodes (set w.nodes at.0 None) p.to.0 p.body (kind_retire Ether w.nodes at.0 p.to.0) (K.wires p (still p h));
         packets = λ p h. K.packets p (still p h);
-        ethers = λ n lt. ether_retire w.nodes at.0 (n + 2) (K.ethers n lt);
+        ethers = λ n lt. kind_retire Ether w.nodes at.0 (n + 2) (K.ethers n lt);
         told = K.told;
         left = K.left;
       }

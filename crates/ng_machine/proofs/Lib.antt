@@ -25,3 +25,4 @@ pub mod Owing
 pub mod Knowing
 pub mod Costing
 pub mod Lowering
+pub mod Teaching

@@ -2,12 +2,12 @@
 use Rattle.std.proofs.Common.{◌≡◌, ◌<◌, ◌+◌, ◌^◌, ℕ, zero, suc, true, eqb, ltb, leb, ◌&&◌, not, List, [], ◌∷◌, Option, Some, None, refl, sym, subst}
 use Rattle.std.proofs.Common.{inl, inr, arith}
 use Rattle.std.specs.Str.{bytes_eq}
-use Rattle.std.proofs.lemmas.Bool.{and_parts, cond_both, ltb-true, leb-true, eqb-true}
+use Rattle.std.proofs.lemmas.Bool.{and_parts, cond_both, leb-true, eqb-true}
 use Rattle.ng_shape.specs.Shape.{Shape, Nothing, UInt, Int, Hex, Str, Ether, Struct, Array, Counted, Fields, no_fields, field, CountField, Own}
-use Rattle.ng_shape.specs.Shape.{Inside, field_number, shape_named, fields_inside}
+use Rattle.ng_shape.specs.Shape.{Inside, field_number, shape_named}
 use Rattle.ng_shape.specs.Sound.{has_counts, is_counted_well, first_fields, can_count, counter_shape, counts, counts_inside}
 use Rattle.ng_shape.specs.Values.{Value, Number, Group, is_absent, members, find, pack}
-use Rattle.ng_shape.proofs.Lookups.{bool_cases, shape_at}
+use Rattle.ng_shape.proofs.Lookups.{bool_cases, can_count_bits, inside_is, shape_at}
 use Rattle.ng_shape.proofs.Views.{unpack_pack}
 use Rattle.ng_parse.specs.Counts.{left_of, count_value, reach, without, put_field, put_count, fill_count, fill_field, fill_counts}
 use Rattle.ng_parse.proofs.Kept.{Each, Kept, KeptAt}
@@ -51,30 +51,6 @@ first_named (suc j) (field n g ps) name f e =
       | inl hit ↦ let here : Some g ≡ Some f = rw hit at e in rw hit here
       | inr miss ↦ rw miss (first_named j ps name f (rw miss at e))
     ]
-
-can_count_bits : (max : ℕ) (o : Option Shape) → can_count max o ≡ true → (bits : ℕ) × (o ≡ Some (UInt bits)) × (max < 2 ^ bits)
-can_count_bits max None e = cc
-can_count_bits max (Some Nothing) e = cc
-can_count_bits max (Some (UInt bits)) e = (bits, refl, ltb-true max (2 ^ bits) e)
-can_count_bits max (Some (Int bits)) e = cc
-can_count_bits max (Some (Hex bits)) e = cc
-can_count_bits max (Some (Str n)) e = cc
-can_count_bits max (Some Ether) e = cc
-can_count_bits max (Some (Struct ps)) e = cc
-can_count_bits max (Some (Array n f)) e = cc
-can_count_bits max (Some (Counted by m f)) e = cc
-
-inside_is : (o : Option Shape) (inner : List ℕ) (g : Shape) → shape_named (fields_inside o) inner ≡ Some g → (qs : Fields) × (o ≡ Some (Struct qs)) × (shape_named qs inner ≡ Some g)
-inside_is None inner g e = cc
-inside_is (Some Nothing) inner g e = cc
-inside_is (Some (UInt bits)) inner g e = cc
-inside_is (Some (Int bits)) inner g e = cc
-inside_is (Some (Hex bits)) inner g e = cc
-inside_is (Some (Str n)) inner g e = cc
-inside_is (Some Ether) inner g e = cc
-inside_is (Some (Struct ps)) inner g e = (ps, refl, e)
-inside_is (Some (Array n f)) inner g e = cc
-inside_is (Some (Counted by m f)) inner g e = cc
 
 structure_kept : (ps qs : Fields) (i : ℕ) (ms : List (ℕ × Value)) → shape_at ps i ≡ Some (Struct qs) → Each (KeptAt ps) ms → Each (KeptAt qs) (members (find i ms))
 structure_kept ps qs i [] e all = tt

@@ -35,7 +35,7 @@ use Rattle.ng_machine.specs.Connect.{unless, hook_refusal, connect_changes, conn
 use Rattle.ng_machine.specs.Generic.{mkpeer, mkpeer_refusal, makes, rename_refusal, carry_out, ordered_by}
 use Rattle.ng_machine.specs.Effect.{door_name, exits, posts, counts_unless, is_fine, serve, learns_by, learns, learn, answered, reply_changes_if, told_answer, MessageClass, AnAnswer, AnOrder, OfKind, Foreign, class_of, message_by, effect_at}
 use Rattle.ng_machine.proofs.Preserving.{join_all, flat_all}
-use Rattle.ng_pool.proofs.Teaching.{frames_teach}
+use Rattle.ng_machine.proofs.Teaching.{frames_teach}
 
 -- the body may be brought to this node by an item at a node: time never, and what is to be learned by a bridge for itself
 abbrev pub IsBrought : NodeRecord → NodeId → NodeId → Body → Type 0

@@ -1,9 +1,8 @@
 -- Time, and what is to be learned, wait at bridges alone: in each world of an orderly run.
-use Rattle.std.proofs.Common.{◌≡◌, ◌≢◌, ℕ, suc, ◌+◌, Bool, true, false, not, nat_le, nat_lt, List, [], ◌∷◌, ◌++◌, set, is_some, slice_get, refl, sym, ap, ◌∙◌, ⊎_elim, subst, arith}
+use Rattle.std.proofs.Common.{◌≡◌, ℕ, suc, ◌+◌, Bool, true, false, not, nat_le, nat_lt, List, [], ◌∷◌, ◌++◌, set, is_some, slice_get, refl, sym, ap, ◌∙◌, ⊎_elim, subst, arith}
 use Rattle.std.specs.List.{filter}
 use Rattle.std.specs.declared.option.Option.{Option}
 use Rattle.std.specs.declared.option.Option.TheVariants.{None, Some}
-use Rattle.std.proofs.lemmas.Bool.{cases_eq}
 use Rattle.ng_base.specs.declared.event.Event.{Event}
 use Rattle.ng_base.specs.declared.event.Event.TheVariants.{Feed, Take, Back, Apply, Stop}
 use Rattle.ng_base.specs.declared.ids.ItemId.{ItemId}
@@ -33,9 +32,10 @@ use Rattle.ng_machine.specs.Run.{RunState, Taken, after, after_all, beginning}
 use Rattle.ng_machine.specs.Orderly.{IsTaken, AllowedEvent, OrderlyFrom}
 use Rattle.ng_machine.specs.Laws.{Setting, start, world_after, IsJournal}
 use Rattle.ng_machine.proofs.Standing.{in_pushed, of_filter}
-use Rattle.ng_machine.proofs.NodeLists.{get, get_here, get_apart, get_gone, some_none, given_number, same_row, still_given}
+use Rattle.ng_machine.proofs.NodeLists.{get, some_none, given_number, same_row}
 use Rattle.ng_machine.proofs.Quieted.{accepts_quietly, posts_quietly, notes_quietly}
 use Rattle.ng_machine.proofs.Kept.{SoundAt, OnKind, on_set, on_make, on_retire, nodes_quietly}
+use Rattle.ng_machine.proofs.Knowing.{kind_set, kind_retire}
 use Rattle.ng_machine.proofs.Moves.{KeptAt, kept_event, held_item}
 use Rattle.ng_machine.proofs.Ordering.{kept_start}
 use Rattle.ng_machine.proofs.Preserving.{kinds_stay}
@@ -118,32 +118,12 @@ noted w at stamp Links A = A
 
 -- Nodes
 
-on_other : (nodes : List (Option NodeRecord)) (at n : ℕ) (old now : NodeRecord) → get nodes at ≡ Some old → kind_at now ≡ kind_at old → OnKind n BridgeKind nodes → OnKind n BridgeKind (set nodes at (Some now))
-on_other nodes at n old now is kind on = record {
-  within = still_given nodes at n (Some now) on.within;
-  kind = λ node here. ⊎_elim
-      (λ (e : n ≡ at).
-      let it : node ≡ now = same_row node now (sym here ∙ ap (get (set nodes at (Some now))) e ∙ get_here nodes at (Some now) (given_number nodes at old is)) in
-      ap kind_at it ∙ kind ∙ on.kind old (ap (get nodes) e ∙ is))
-      (λ (a : n ≢ at). on.kind node (sym (get_apart nodes at n (Some now) a) ∙ here))
-      (cases_eq n at);
-}
-
-on_gone : (nodes : List (Option NodeRecord)) (at n : ℕ) → OnKind n BridgeKind nodes → OnKind n BridgeKind (set nodes at None)
-on_gone nodes at n on = record {
-  within = still_given nodes at n None on.within;
-  kind = λ node here. ⊎_elim
-      (λ (e : n ≡ at). absurd (some_none node (sym here ∙ ap (get (set nodes at None)) e ∙ get_gone nodes at)))
-      (λ (a : n ≢ at). on.kind node (sym (get_apart nodes at n None a) ∙ here))
-      (cases_eq n at);
-}
-
 node_set : (w : World) (at : NodeId) (node now : NodeRecord) (o : Option NodeRecord) → node_at w at ≡ o → kind_at now ≡ kind_at node → OnKind at.0 (kind_at node) w.nodes → AllWaitWell w → AllWaitWell (set_node w at now (is_some o))
 node_set w at node now None is kind on A = A
-node_set w at node now (Some old) is kind on A = λ p h. waits_still w.nodes (set w.nodes at.0 (Some now)) p.to.0 p.body (on_other w.nodes at.0 p.to.0 old now is (kind ∙ sym (on.kind old is))) (A p h)
+node_set w at node now (Some old) is kind on A = λ p h. waits_still w.nodes (set w.nodes at.0 (Some now)) p.to.0 p.body (kind_set BridgeKind w.nodes at.0 p.to.0 old now is (kind ∙ sym (on.kind old is))) (A p h)
 
 retired : (w : World) (at : NodeId) → AllWaitWell w → AllWaitWell (retire w at)
-retired w at A p h = waits_still w.nodes (set w.nodes at.0 None) p.to.0 p.body (on_gone w.nodes at.0 p.to.0) (A p (of_filter (λ q. not (is_at at q)) p w.pending h).0)
+retired w at A p h = waits_still w.nodes (set w.nodes at.0 None) p.to.0 p.body (kind_retire BridgeKind w.nodes at.0 p.to.0) (A p (of_filter (λ q. not (is_at at q)) p w.pending h).0)
 
 -- A change of an item at its node, and a list of them
 

@@ -1,4 +1,3 @@
-pub mod Teaching
 pub mod BridgeItems
 pub mod BridgeRuns
 pub mod WorkableJobs
@@ -12,3 +11,5 @@ pub mod Endings
 pub mod Holding
 pub mod Playing
 pub mod Emptying
+pub use Rattle.ng_seats.proofs.OpenStories
+pub use Rattle.ng_seats.proofs.PortCounts

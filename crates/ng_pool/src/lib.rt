@@ -14,6 +14,7 @@ mod working;
 pub use choosing::chosen;
 pub use laws::{jobs_are_workable, plainly_is_plain, plainly_is_whole};
 pub use moves::{Chosen, Move};
+pub use ng_seats::Core;
 pub use plainly::plain;
 pub use unfed::Unfed;
 pub use working::work;

@@ -10,9 +10,9 @@ use Rattle.ng_machine.specs.declared.input.Input.{Input}
 use Rattle.ng_machine.specs.Laws.{Setting, world_after}
 use Rattle.ng_machine.specs.LowRun.{IsModest, most_ports}
 use Rattle.ng_machine.specs.Run.{RunState}
-use Rattle.ng_seats.specs.Beginning.{begun_core}
-use Rattle.ng_seats.specs.Calls.{are_different}
-use Rattle.ng_seats.specs.CoreStory.{CoreStory, story}
+use Rattle.ng_run.specs.Beginning.{begun_core}
+use Rattle.ng_run.specs.Calls.{are_different}
+use Rattle.ng_run.specs.CoreStory.{CoreStory, story}
 use Rattle.ng_story.specs.Story.{AreFitFor, world_of}
 use Rattle.ng_run.specs.Run.{MayRun, setting_of}
 use Rattle.ng_words.specs.Lists as words

@@ -6,7 +6,7 @@ ghost use Rattle.ng_machine.specs.Laws.{world_after};
 ghost use Rattle.ng_replay.specs.Call.{kinds_of, run_of};
 ghost use Rattle.ng_run.specs.Run.{MayRun, setting_of};
 ghost use Rattle.ng_run.specs.Stocked.{IsStocked};
-ghost use Rattle.ng_seats.specs.CoreStory.{story};
+ghost use Rattle.ng_run.specs.CoreStory.{story};
 ghost use Rattle.ng_story.specs.Story.{world_of};
 
 use ng_base::{Name, NoMemory};
@@ -14,7 +14,7 @@ use ng_events::Journal;
 use ng_judge::{Verdict, judge};
 use ng_machine::Input;
 use ng_node::Node;
-use ng_seats::Core;
+use ng_run::Core;
 use ng_words::{PortWord, ReplayWords};
 use std::alloc::Global;
 

@@ -2,7 +2,7 @@
 ghost use Rattle.std.specs.Prelude.{◌≡◌, ◌≤◌, length, IfOk};
 ghost use Rattle.std.specs.List.{list_any};
 ghost use Rattle.ng_run.specs.Writes.{is_stop, shown_by};
-ghost use Rattle.ng_seats.specs.CoreStory.{story};
+ghost use Rattle.ng_run.specs.CoreStory.{story};
 ghost use Rattle.ng_story.specs.Story.{world_of};
 ghost use Rattle.ngctl_print.specs.Prints.{Prints};
 ghost use Rattle.ngctl_text.specs.Text.{reports, world_text};
@@ -13,8 +13,7 @@ use ng_events::Journal;
 use ng_machine::Command;
 use ng_node::Node;
 use ng_outside::Sink;
-use ng_run::is_stopped;
-use ng_seats::Core;
+use ng_run::{Core, is_stopped};
 use ng_words::PortWord;
 use ngctl_print::PrintStop;
 use ngctl_text::{PortReport, Summary, print_text};

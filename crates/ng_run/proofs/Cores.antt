@@ -7,7 +7,7 @@ use Rattle.ng_machine.specs.LowRun.{most_ports}
 use Rattle.ng_machine.specs.State.{State, kind_of}
 use Rattle.std.proofs.lemmas.List.{length-map}
 use Rattle.ng_words.specs.Lists as words
-use Rattle.ng_seats.specs.Calls.{HasBoxes, are_different}
+use Rattle.ng_workers.specs.Calls.{HasBoxes, are_different}
 use Rattle.ng_run.specs.Stocked.{IsStocked}
 
 -- names are different by either word

@@ -183,6 +183,15 @@ module _ (kinds : List Kind) (o : Outside) (status : ℕ) (journal : List Event)
   runs_plainly said e = λ words found is told none ran.
       (has_run kinds words found o journal fault ran (told_ends said words found e is told)).plain none
 
+  -- words that are not in form end with no other fault
+  usage_alone_fails : (other : Fault) → (other ≡ Usage → ⊥) → (other ≡ NoMemory → ⊥) → fault ≡ Some other → Ends usage o journal fault → ⊥
+  usage_alone_fails other not_usage not_memory is ends =
+      by (usage_alone o journal (Some other) (subst (λ (f : Option Fault). Ends usage o journal f) is ends))
+    where
+      by : (Some other ≡ Some Usage) ⊎ (Some other ≡ Some NoMemory) → ⊥
+      by (inl same) = not_usage (cc same)
+      by (inr same) = not_memory (cc same)
+
   pub usage_comes : (said : Option Words) → EndsBy kinds said o status journal fault → UsageComes said fault
   usage_comes None e = ((λ none. usage_alone o journal fault e.ends), (λ is. refl))
   usage_comes (Some words) e = (
@@ -191,12 +200,7 @@ module _ (kinds : List Kind) (o : Outside) (status : ℕ) (journal : List Event)
   )
 
   pub reading_only : (said : Option Words) → EndsBy kinds said o status journal fault → ReadsOnly kinds said o fault
-  reading_only None e = λ which is.
-      absurd (not_usage (usage_alone o journal (Some (ReadFault which)) (subst (λ (f : Option Fault). Ends usage o journal f) is e.ends)))
-    where
-      not_usage : {which : Which} → (Some (ReadFault which) ≡ Some Usage) ⊎ (Some (ReadFault which) ≡ Some NoMemory) → ⊥
-      not_usage (inl same) = cc same
-      not_usage (inr same) = cc same
+  reading_only None e = λ which is. absurd (usage_alone_fails (ReadFault which) (λ same. cc same) (λ same. cc same) is e.ends)
   reading_only (Some words) e = λ which is. (
     words,
     e.found,
@@ -205,12 +209,7 @@ module _ (kinds : List Kind) (o : Outside) (status : ℕ) (journal : List Event)
   )
 
   pub writing_only : (said : Option Words) → EndsBy kinds said o status journal fault → WritesOnly kinds said o journal fault
-  writing_only None e = λ which is.
-      absurd (not_usage (usage_alone o journal (Some (WriteFault which)) (subst (λ (f : Option Fault). Ends usage o journal f) is e.ends)))
-    where
-      not_usage : {which : Which} → (Some (WriteFault which) ≡ Some Usage) ⊎ (Some (WriteFault which) ≡ Some NoMemory) → ⊥
-      not_usage (inl same) = cc same
-      not_usage (inr same) = cc same
+  writing_only None e = λ which is. absurd (usage_alone_fails (WriteFault which) (λ same. cc same) (λ same. cc same) is e.ends)
   writing_only (Some words) e = λ which is. (
     words,
     e.found,
@@ -219,12 +218,7 @@ module _ (kinds : List Kind) (o : Outside) (status : ℕ) (journal : List Event)
   )
 
   pub leaves_prefix : (said : Option Words) → EndsBy kinds said o status journal fault → LeavesPrefix kinds said o journal fault
-  leaves_prefix None e = λ which is.
-      absurd (not_usage (usage_alone o journal (Some (WriteFault which)) (subst (λ (f : Option Fault). Ends usage o journal f) is e.ends)))
-    where
-      not_usage : {which : Which} → (Some (WriteFault which) ≡ Some Usage) ⊎ (Some (WriteFault which) ≡ Some NoMemory) → ⊥
-      not_usage (inl same) = cc same
-      not_usage (inr same) = cc same
+  leaves_prefix None e = λ which is. absurd (usage_alone_fails (WriteFault which) (λ same. cc same) (λ same. cc same) is e.ends)
   leaves_prefix (Some words) e = λ which is. (
     words,
     e.found,

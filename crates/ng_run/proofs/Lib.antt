@@ -4,6 +4,7 @@ pub mod Ports
 pub mod Reading
 pub mod Reports
 pub mod Writing
+pub mod GivenSorts
 pub mod Sorts
 pub mod Said
 pub mod Running
@@ -12,3 +13,4 @@ pub mod Apart
 pub mod Exactly
 pub mod Cores
 pub mod Runs
+pub use Rattle.ng_workers.proofs.PortCounts

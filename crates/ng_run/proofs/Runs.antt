@@ -9,8 +9,8 @@ use Rattle.ng_machine.specs.Plain.{IsPlain}
 use Rattle.ng_machine.specs.Run.{RunState}
 use Rattle.ng_run.specs.Run as run
 use Rattle.ng_run.specs.Run.{IsRun}
-use Rattle.ng_seats.specs.CoreStory.{CoreStory, setting_of, story}
-use Rattle.ng_seats.proofs.PortCounts.{ports_stay}
+use Rattle.ng_workers.specs.CoreStory.{CoreStory, setting_of, story}
+use Rattle.ng_workers.proofs.PortCounts.{ports_stay}
 use Rattle.ng_story.specs.Story.{has_ended, run_state_of, with_more, world_of}
 use Rattle.ng_words.specs.declared.words.Words.{Words}
 use Rattle.ng_words.specs.Run.{ports_from}

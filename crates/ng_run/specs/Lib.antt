@@ -8,3 +8,7 @@ pub mod Parts
 pub mod Exactly
 pub mod Line
 pub mod Stocked
+pub use Rattle.ng_workers.specs.Calls
+pub use Rattle.ng_workers.specs.CoreStory
+pub use Rattle.ng_workers.specs.Beginning
+pub use Rattle.ng_workers.specs.Plainly

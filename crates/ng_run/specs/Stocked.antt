@@ -7,9 +7,9 @@ use Rattle.ng_machine.specs.LowRun.{most_ports}
 use Rattle.ng_machine.specs.State.{State, blank_of, kind_of}
 use Rattle.ng_machine.specs.Stock.{has_kind}
 use Rattle.ng_machine.specs.Words.{times}
-use Rattle.ng_seats.specs.Beginning.{begun_core}
-use Rattle.ng_seats.specs.Calls.{most_boxes}
-use Rattle.ng_seats.specs.CoreStory.{CoreStory}
+use Rattle.ng_workers.specs.Beginning.{begun_core}
+use Rattle.ng_workers.specs.Calls.{most_boxes}
+use Rattle.ng_workers.specs.CoreStory.{CoreStory}
 use Rattle.ng_words.specs.declared.words.Words.{Words}
 use Rattle.ng_words.specs.Run.{ports_from}
 

@@ -2,7 +2,7 @@
 ghost use Rattle.std.specs.Prelude.{◌≡◌, ◌≤◌, List, length, map, IfOk};
 ghost use Rattle.std.specs.List.{list_any};
 ghost use Rattle.ng_machine.specs.declared.told.Told.{Told};
-ghost use Rattle.ng_seats.specs.CoreStory.{story};
+ghost use Rattle.ng_workers.specs.CoreStory.{story};
 ghost use Rattle.ng_story.specs.Story.{world_of};
 ghost use Rattle.ng_pcap.specs.declared.capture.Capture.{Capture};
 ghost use Rattle.ngctl_print.specs.Prints.{Prints};
@@ -15,8 +15,8 @@ use ng_events::Journal;
 use ng_machine::{Command, Told};
 use ng_node::Node;
 use ng_outside::Sink;
-use ng_seats::Core;
 use ng_words::PortWord;
+use ng_workers::Core;
 use ngctl_print::PrintStop;
 use ngctl_text::{PortReport, Summary, print_text};
 use std::alloc::Global;

@@ -7,7 +7,7 @@ ghost use Rattle.ngctl_script.specs.Held.{AreCommands};
 ghost use Rattle.ng_run.specs.Writes.{is_stop, is_error};
 ghost use Rattle.ng_machine.specs.State.{kind_of};
 ghost use Rattle.ng_outside.specs.Contents.{Contents};
-ghost use Rattle.ng_seats.specs.CoreStory.{story};
+ghost use Rattle.ng_workers.specs.CoreStory.{story};
 ghost use Rattle.ng_story.specs.Story.{world_of};
 ghost use Rattle.ng_words.specs.Run.{words_of, ports_from};
 ghost use Rattle.ng_run.specs.declared.ended.Fault.TheVariants.{NoMemory as no_memory};
@@ -33,8 +33,8 @@ use ng_pcap::Capture;
 use ng_printable::{
     inputs_are_fit, inputs_are_of_script, inputs_are_timed, left_is_writable, told_is_printable,
 };
-use ng_seats::Core;
 use ng_words::{PortWord, Source, Words, read_words};
+use ng_workers::Core;
 use ngctl_script::Script;
 use std::alloc::Global;
 use std::sync::Wait;

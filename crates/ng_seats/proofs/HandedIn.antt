@@ -15,7 +15,7 @@ use Rattle.ng_machine.specs.World.{NodeRecord, node_at}
 use Rattle.ng_machine.proofs.NodeLists.{node_same}
 use Rattle.ng_machine.proofs.Ordering.{alone}
 use Rattle.ng_machine.proofs.Standing.{of_filter}
-use Rattle.ng_removal.specs.Removals.{IsAlone}
+use Rattle.ng_apply.specs.Removals.{IsAlone}
 use Rattle.ng_story.specs.DeskLaws.{IsOrderlySoFar}
 use Rattle.ng_story.specs.Desks.{IsAtWork, IsJobNow, story_job}
 use Rattle.ng_story.specs.SoundStory.{IsSoundStory}

@@ -1,7 +1,7 @@
 -- Where fields and members are found.
-use Rattle.std.proofs.Common.{◌≡◌, ◌≢◌, ◌≤◌, ◌<◌, ◌+◌, ℕ, zero, suc, Bool, true, false, eqb, ◌&&◌, not, List, [], ◌∷◌, ◌++◌, Option, Some, None}
+use Rattle.std.proofs.Common.{◌≡◌, ◌≢◌, ◌≤◌, ◌<◌, ◌+◌, ◌^◌, ℕ, zero, suc, Bool, true, false, eqb, ◌&&◌, not, List, [], ◌∷◌, ◌++◌, Option, Some, None}
 use Rattle.std.proofs.Common.{refl, sym, inl, inr, ◌⊎◌, arith}
-use Rattle.std.proofs.lemmas.Bool.{and_parts, ne_eqb, eq-eqb}
+use Rattle.std.proofs.lemmas.Bool.{and_parts, ltb-true, ne_eqb, eq-eqb}
 use Rattle.std.specs.Str.{bytes_eq}
 use Rattle.ng_shape.specs.Shape.{Shape, Nothing, UInt, Int, Hex, Str, Ether, Struct, Array, Counted, Fields, no_fields, field, CountField, Own}
 use Rattle.ng_shape.specs.Shape.{Inside, field_number, shape_named, fields_inside}
@@ -55,19 +55,19 @@ abbrev pub CountsEarly : Fields → ℕ → CountField → Type 0
 CountsEarly ps j (Own name) = (bits : ℕ) × IsEarlier ps j name (UInt bits)
 CountsEarly ps j (Inside name inner) = (qs : Fields) × IsEarlier ps j name (Struct qs) × ((bits : ℕ) × IsNamed qs inner (UInt bits))
 
-can_count_shape : (max : ℕ) (o : Option Shape) → can_count max o ≡ true → (bits : ℕ) × (o ≡ Some (UInt bits))
-can_count_shape max None e = cc
-can_count_shape max (Some Nothing) e = cc
-can_count_shape max (Some (UInt bits)) e = (bits, refl)
-can_count_shape max (Some (Int bits)) e = cc
-can_count_shape max (Some (Hex bits)) e = cc
-can_count_shape max (Some (Str n)) e = cc
-can_count_shape max (Some Ether) e = cc
-can_count_shape max (Some (Struct ps)) e = cc
-can_count_shape max (Some (Array n f)) e = cc
-can_count_shape max (Some (Counted by m f)) e = cc
+pub can_count_bits : (max : ℕ) (o : Option Shape) → can_count max o ≡ true → (bits : ℕ) × (o ≡ Some (UInt bits)) × (max < 2 ^ bits)
+can_count_bits max None e = cc
+can_count_bits max (Some Nothing) e = cc
+can_count_bits max (Some (UInt bits)) e = (bits, refl, ltb-true max (2 ^ bits) e)
+can_count_bits max (Some (Int bits)) e = cc
+can_count_bits max (Some (Hex bits)) e = cc
+can_count_bits max (Some (Str n)) e = cc
+can_count_bits max (Some Ether) e = cc
+can_count_bits max (Some (Struct ps)) e = cc
+can_count_bits max (Some (Array n f)) e = cc
+can_count_bits max (Some (Counted by m f)) e = cc
 
-inside_is : (o : Option Shape) (inner : List ℕ) (g : Shape) → shape_named (fields_inside o) inner ≡ Some g → (qs : Fields) × (o ≡ Some (Struct qs)) × (shape_named qs inner ≡ Some g)
+pub inside_is : (o : Option Shape) (inner : List ℕ) (g : Shape) → shape_named (fields_inside o) inner ≡ Some g → (qs : Fields) × (o ≡ Some (Struct qs)) × (shape_named qs inner ≡ Some g)
 inside_is None inner g e = cc
 inside_is (Some Nothing) inner g e = cc
 inside_is (Some (UInt bits)) inner g e = cc
@@ -84,7 +84,8 @@ counter_counts : (ps : Fields) (by : CountField) (max : ℕ) (f : Shape) → is_
 counter_counts ps by max f e =
     let both = and_parts (can_count max (counter_shape ps by) && not (counts by ps)) (not (counts_inside by ps)) e in
     let first = and_parts (can_count max (counter_shape ps by)) (not (counts by ps)) both.0 in
-    can_count_shape max (counter_shape ps by) first.0
+    let (bits, is, low) = can_count_bits max (counter_shape ps by) first.0 in
+    (bits, is)
 
 pub counter_early : (by : CountField) (ps : Fields) (j max : ℕ) (f : Shape) → is_counted_well (first_fields j ps) (Counted by max f) ≡ true → CountsEarly ps j by
 counter_early (Own name) ps j max f e =

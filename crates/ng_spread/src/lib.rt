@@ -4,9 +4,8 @@
 mod fate;
 mod flight;
 mod following;
-#[cfg(test)]
-mod tests;
 
 pub use fate::{Fate, find_fate};
 pub use flight::Flight;
 pub use following::{Followed, Trail, follow};
+pub use ng_seats::Still;

@@ -14,7 +14,7 @@ use Rattle.ng_world.specs.declared.handed.Work.{Work}
 use Rattle.ng_machine.specs.Words.{first_refusal, times}
 use Rattle.ng_pool.proofs.Steps.{fed_fits}
 use Rattle.ng_pool.specs.Feeding.{IsFed, IsUnfed}
-use Rattle.ng_seats.specs.CoreStory.{CoreStory, story}
+use Rattle.ng_pool.specs.CoreStory.{CoreStory, story}
 use Rattle.ng_story.proofs.OfDesks.{feed_tells}
 use Rattle.ng_story.proofs.SoundStories.{so_far}
 use Rattle.ng_story.specs.Closing.{close_refusal, is_spent, refusal_below, stops}

@@ -6,3 +6,4 @@ pub mod Rows
 pub mod OwnEvents
 pub mod EndedRuns
 pub mod WholeRuns
+pub use Rattle.ng_pool.proofs.PortCounts

@@ -3,8 +3,8 @@ use Rattle.std.proofs.Common.{◌≡◌, ◌<◌, ◌∙◌, ℕ, zero, suc, Lis
 use Rattle.ng_machine.specs.declared.input.Input.{Input}
 use Rattle.ng_machine.specs.Desk.{SeatDesk}
 use Rattle.ng_pool.proofs.Idle.{all_idle}
-use Rattle.ng_seats.proofs.OpenStories.{open_story}
-use Rattle.ng_seats.specs.CoreStory.{CoreStory, story}
+use Rattle.ng_pool.proofs.OpenStories.{open_story}
+use Rattle.ng_pool.specs.CoreStory.{CoreStory, story}
 use Rattle.ng_story.specs.Desks.{no_desk}
 use Rattle.ng_story.specs.Story.{AreFitFor, has_ended, run_state_of}
 use Rattle.ng_turn.specs.declared.pass.Pass.{Pass}

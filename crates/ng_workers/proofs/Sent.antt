@@ -35,7 +35,7 @@ use Rattle.ng_topology.specs.contracts.places.Places as Places
 use Rattle.ng_topology.specs.contracts.stock.Stock as Stock
 use Rattle.ng_world.specs.contracts.state.Port as Port
 use Rattle.ng_world.specs.contracts.state.State as State
-use Rattle.ng_seats.specs.contracts.machine.Core as Core
+use Rattle.ng_pool.specs.core_machine.Core as Core
 use Rattle.ng_turn.specs.contracts.pass.Pass as Pass
 use Rattle.ng_turn.specs.declared.desked.Desked as Desked
 use Rattle.ng_turn.specs.contracts.turn.Turn as Turn

@@ -3,7 +3,7 @@ use Rattle.std.specs.Prelude.{◌≡◌, ◌⊎◌, ℕ, zero, suc, false, List,
 use Rattle.ng_machine.specs.declared.input.Input.{Input}
 use Rattle.ng_machine.specs.Desk.{SeatDesk}
 use Rattle.ng_machine.specs.State.{State}
-use Rattle.ng_seats.specs.CoreStory.{CoreStory}
+use Rattle.ng_pool.specs.CoreStory.{CoreStory}
 use Rattle.ng_story.specs.Desks.{no_desk}
 use Rattle.ng_turn.specs.declared.pass.Pass.{Pass}
 use Rattle.ng_turn.specs.declared.turn.Turn.{Turn}

@@ -3,7 +3,7 @@ ghost use Rattle.std.specs.Prelude.{◌≡◌, ◌<◌, List, false, true, lengt
 ghost use Rattle.ng_machine.specs.declared.input.Input.{Input as TheInput};
 ghost use Rattle.ng_machine.specs.Desk.{Idle};
 ghost use Rattle.ng_pool.specs.Feeding.{IsUnfed};
-ghost use Rattle.ng_seats.specs.CoreStory.{story};
+ghost use Rattle.ng_pool.specs.CoreStory.{story};
 ghost use Rattle.ng_story.specs.Desks.{Others};
 ghost use Rattle.ng_story.specs.Story.{has_ended};
 ghost use Rattle.ng_workers.specs.Desks.{core_desk};
@@ -14,8 +14,7 @@ use crate::holding::{Leftover, hand_in, quit, take_next};
 use crate::next::Next;
 use ng_base::NoMemory;
 use ng_node::Node;
-use ng_pool::Unfed;
-use ng_seats::Core;
+use ng_pool::{Core, Unfed};
 use ng_world::{Done, Work};
 use std::alloc::Global;
 

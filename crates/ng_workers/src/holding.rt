@@ -3,7 +3,7 @@ ghost use Rattle.std.specs.Prelude.{◌≡◌, ◌<◌, true, false, OnOk, OnErr
 ghost use Rattle.ng_base.specs.declared.event.Event.TheVariants.{Back};
 ghost use Rattle.ng_machine.specs.Desk.{Idle};
 ghost use Rattle.ng_pool.specs.Workable.{IsWorkable};
-ghost use Rattle.ng_seats.specs.CoreStory.{story};
+ghost use Rattle.ng_pool.specs.CoreStory.{story};
 ghost use Rattle.ng_story.specs.Desks.{Others, story_job};
 ghost use Rattle.ng_story.specs.Story.{given_up_by, has_ended, with_event};
 ghost use Rattle.ng_world.specs.Handed.{item_of, job_with};
@@ -13,8 +13,7 @@ ghost use Rattle.ng_workers.specs.Hands.{Brings, IfEnd, IfNothing, Takes};
 use crate::next::Next;
 use ng_base::NoMemory;
 use ng_node::Node;
-use ng_pool::jobs_are_workable;
-use ng_seats::Core;
+use ng_pool::{Core, jobs_are_workable};
 use ng_world::{Done, Work};
 use std::alloc::Global;
 

@@ -14,5 +14,6 @@ mod working;
 
 pub use driving::drive;
 pub use laws::ran_is_whole;
+pub use ng_pool::{Core, plain, plainly_is_plain, plainly_is_whole};
 pub use running::run_workers;
 pub use working::worker;

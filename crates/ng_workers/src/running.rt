@@ -2,7 +2,7 @@
 ghost use Rattle.std.specs.Prelude.{◌≡◌, ◌<◌, [], false, vec_len, IfOk};
 ghost use Rattle.std.specs.Thread.{IsSend, IsSync};
 ghost use Rattle.std.specs.Vec.{vec_capacity};
-ghost use Rattle.ng_seats.specs.CoreStory.{CoreStory, story};
+ghost use Rattle.ng_pool.specs.CoreStory.{CoreStory, story};
 ghost use Rattle.ng_story.specs.Story.{AreFitFor, has_ended, run_state_of};
 ghost use Rattle.ng_turn.specs.Words.{seat_of};
 ghost use Rattle.ng_workers.specs.Desks.{IsOver, IsReady};
@@ -15,7 +15,7 @@ use ng_base::NoMemory;
 use ng_machine::Input;
 use ng_node::Node;
 use ng_outside::Gate;
-use ng_seats::Core;
+use ng_pool::Core;
 use ng_turn::{Pass, Turn};
 use std::alloc::Global;
 use std::sync::Wait;

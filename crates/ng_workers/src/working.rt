@@ -11,7 +11,7 @@ use crate::next::Next;
 use crate::step::Step;
 use ng_node::Node;
 use ng_outside::Gate;
-use ng_seats::Core;
+use ng_pool::Core;
 use ng_turn::{Backoff, Pass, Turn};
 use ng_world::{Done, Work};
 use std::alloc::Global;

@@ -3,7 +3,7 @@ use Rattle.std.proofs.lemmas.Grind.{common_steps}
 use Rattle.std.specs.List.{list_all}
 use Rattle.ng_machine.specs.declared.input.Input.{Input}
 use Rattle.ng_machine.specs.State.{kind_of}
-use Rattle.ng_seats.specs.CoreStory.{CoreStory, story}
+use Rattle.ng_pool.specs.CoreStory.{CoreStory, story}
 use Rattle.ng_story.specs.Story.{AreFitFor, has_ended}
 use Rattle.ng_chosen_examples.specs.Fit.{fits_input}
 use Rattle.ng_chosen_examples.proofs.Begins.{begun_fits, begun_runs}

@@ -8,10 +8,10 @@ use Rattle.ng_machine.specs.LowRun.{IsModest}
 use Rattle.ng_machine.specs.Run.{RunState}
 use Rattle.ng_machine.specs.State.{kind_of}
 use Rattle.ng_machine.specs.World.{World}
-use Rattle.ng_pool.specs.Plainly.{WentPlainly}
-use Rattle.ng_seats.specs.Beginning.{begun_core}
-use Rattle.ng_seats.specs.CoreStory.{CoreStory, setting_of as core_setting, story}
-use Rattle.ng_seats.proofs.PortCounts.{ports_stay}
+use Rattle.ng_run.specs.Plainly.{WentPlainly}
+use Rattle.ng_run.specs.Beginning.{begun_core}
+use Rattle.ng_run.specs.CoreStory.{CoreStory, setting_of as core_setting, story}
+use Rattle.ng_run.proofs.PortCounts.{ports_stay}
 use Rattle.ng_story.specs.Story.{has_ended, with_more, world_of}
 use Rattle.ng_words.specs.declared.port.PortWord.{PortWord}
 use Rattle.ng_words.specs.Lists as words

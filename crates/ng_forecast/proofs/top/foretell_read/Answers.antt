@@ -1,7 +1,7 @@
 use Rattle.std.proofs.Common.{◌∙◌, ap, map, sym}
 use Rattle.ng_machine.specs.State.{kind_of}
 use Rattle.ng_machine.specs.World.{World}
-use Rattle.ng_seats.specs.CoreStory.{story}
+use Rattle.ng_run.specs.CoreStory.{story}
 use Rattle.ng_story.specs.Story.{world_of}
 use Rattle.ng_run.specs.Writes.{is_stopped}
 use Rattle.ng_forecast.specs.Steps.{flights_of}

@@ -1,6 +1,6 @@
 use Rattle.std.specs.declared.option.Option.TheVariants.{None}
 use Rattle.ng_base.specs.declared.event.Event.TheVariants as by
-use Rattle.ng_seats.specs.CoreStory.{story}
+use Rattle.ng_pool.specs.CoreStory.{story}
 use Rattle.ng_world.specs.Handed.{item_of}
 use Rattle.ng_judge.proofs.Followed.{follows_named}
 use Rattle.ng_judge.proofs.Refusing.{refuses_apply}

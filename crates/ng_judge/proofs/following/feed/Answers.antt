@@ -1,5 +1,5 @@
 use Rattle.std.proofs.Common.{ap}
-use Rattle.ng_seats.specs.CoreStory.{CoreStory, story}
+use Rattle.ng_pool.specs.CoreStory.{CoreStory, story}
 use Rattle.ng_pool.proofs.Steps.{fed_fits}
 use Rattle.ng_judge.proofs.Followed.{follows_feed}
 use Rattle.ng_judge.proofs.Refusing.{refuses_feed}

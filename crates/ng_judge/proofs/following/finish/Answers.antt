@@ -1,6 +1,6 @@
 use Rattle.std.proofs.Common.{sym, subst}
-use Rattle.ng_seats.specs.CoreStory.{story}
-use Rattle.ng_seats.proofs.OpenStories.{open_story}
+use Rattle.ng_pool.specs.CoreStory.{story}
+use Rattle.ng_pool.proofs.OpenStories.{open_story}
 use Rattle.ng_pool.specs.Workable.{IsWorkable}
 use Rattle.ng_pool.proofs.WorkableJobs.{jobs_are_workable}
 use Rattle.ng_judge.proofs.following.finish.Goals as goal

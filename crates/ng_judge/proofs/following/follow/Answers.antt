@@ -1,5 +1,5 @@
 use Rattle.std.proofs.Common.{◌≡◌, ◌∙◌, Bool, true, sym}
-use Rattle.ng_seats.specs.CoreStory.{story}
+use Rattle.ng_pool.specs.CoreStory.{story}
 use Rattle.ng_story.specs.Story.{AreFitFor}
 use Rattle.ng_judge.proofs.Refusing.{refuses_ended}
 use Rattle.ng_judge.proofs.Seats.{fits_same, if_ok_all, if_ok_map}

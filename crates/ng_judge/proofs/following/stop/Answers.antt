@@ -1,5 +1,5 @@
 use Rattle.std.proofs.Common.{◌∙◌, sym}
-use Rattle.ng_seats.specs.CoreStory.{story}
+use Rattle.ng_pool.specs.CoreStory.{story}
 use Rattle.ng_judge.proofs.Seats.{follows_closed, refuses_closed}
 use Rattle.ng_judge.proofs.following.stop.Goals as goal
 

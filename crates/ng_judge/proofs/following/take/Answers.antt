@@ -3,7 +3,7 @@ use Rattle.std.specs.Prelude.{IfNone, IfSome}
 use Rattle.std.specs.declared.option.Option.{Option}
 use Rattle.std.specs.declared.option.Option.TheVariants.{Some}
 use Rattle.ng_base.specs.declared.event.Event.TheVariants as by
-use Rattle.ng_seats.specs.CoreStory.{story}
+use Rattle.ng_pool.specs.CoreStory.{story}
 use Rattle.ng_story.specs.Desks.{story_job}
 use Rattle.ng_story.specs.SoundStory.{IsSoundStory}
 use Rattle.ng_story.specs.Story.{NothingToTake, has_ended, with_event}

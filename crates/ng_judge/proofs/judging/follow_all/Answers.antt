@@ -2,7 +2,7 @@ use Rattle.std.proofs.Common.{◌≡◌, ◌∙◌, ℕ, ◌+◌, List, [], ◌�
 use Rattle.std.proofs.lemmas.List.{length-append}
 use Rattle.ng_base.specs.declared.event.Event.{Event}
 use Rattle.ng_judge.specs.Following.{all_with}
-use Rattle.ng_seats.specs.CoreStory.{story}
+use Rattle.ng_pool.specs.CoreStory.{story}
 use Rattle.ng_judge.proofs.Followed.{followed_more}
 use Rattle.ng_judge.proofs.Whole.{first_refused}
 use Rattle.ng_judge.proofs.judging.follow_all.Goals as goal

@@ -1,7 +1,7 @@
 -- The core has followed the events so far, and each seat holds what its desk says until it ended.
 use Rattle.std.proofs.Common.{◌≡◌, ◌++◌, length}
 use Rattle.ng_judge.specs.Following.{HasFollowed, HoldsWhileOpen, all_with}
-use Rattle.ng_seats.specs.CoreStory.{story}
+use Rattle.ng_pool.specs.CoreStory.{story}
 use Rattle.ng_story.specs.Story.{AreFitFor}
 use Rattle.ng_judge.proofs.judging.follow_all.Given as goal
 

@@ -1,4 +1,4 @@
-use Rattle.ng_seats.specs.CoreStory.{setting_of, story}
+use Rattle.ng_pool.specs.CoreStory.{setting_of, story}
 use Rattle.ng_judge.proofs.Followed.{begun_follows}
 use Rattle.ng_judge.proofs.judging.judge.Goals as goal
 

@@ -1,7 +1,7 @@
 -- The lines of the ports so far.
 use Rattle.std.proofs.Common.{◌≡◌, take}
 use Rattle.ng_run.specs.Writes.{shown_by}
-use Rattle.ng_seats.specs.CoreStory.{story}
+use Rattle.ng_run.specs.CoreStory.{story}
 use Rattle.ng_story.specs.Story.{world_of}
 use Rattle.ngctl_text.specs.Text.{reports}
 use Rattle.ng_replay.proofs.text.reports.Given as goal

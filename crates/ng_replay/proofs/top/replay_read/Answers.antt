@@ -1,7 +1,7 @@
 use Rattle.std.proofs.Common.{◌∙◌, map, refl, ap, subst, arith}
 use Rattle.ng_judge.specs.Verdict.{IsVerdict}
 use Rattle.ng_pcap.specs.declared.capture.Capture.{Capture}
-use Rattle.ng_seats.specs.CoreStory.{story}
+use Rattle.ng_run.specs.CoreStory.{story}
 use Rattle.ng_story.specs.Story.{world_of}
 use Rattle.ng_run.specs.Run.{setting_of}
 use Rattle.ng_run.proofs.Running.{all_printable, cuts_many, early, few_captures, inputs_found, may_run}

@@ -1,6 +1,6 @@
 use Rattle.std.proofs.Common.{◌≡◌, take}
 use Rattle.ngctl_text.specs.Text.{reports}
-use Rattle.ng_seats.specs.CoreStory.{story}
+use Rattle.ng_workers.specs.CoreStory.{story}
 use Rattle.ng_story.specs.Story.{world_of}
 use Rattle.ng_run.specs.Writes.{shown_by}
 use Rattle.ng_run.proofs.text.reports.Given as goal

@@ -1,7 +1,7 @@
 use Rattle.std.proofs.Common.{◌∙◌, map, ap, arith}
 use Rattle.ng_pcap.specs.declared.capture.Capture.{Capture}
 use Rattle.ng_machine.specs.State.{kind_of}
-use Rattle.ng_seats.specs.CoreStory.{story}
+use Rattle.ng_workers.specs.CoreStory.{story}
 use Rattle.ng_story.specs.Story.{world_of}
 use Rattle.ng_run.specs.Parts.{storing, outside, counting}
 use Rattle.ng_run.proofs.Running.{few_captures, cuts_many, may_run, inputs_found, all_printable, all_writable}

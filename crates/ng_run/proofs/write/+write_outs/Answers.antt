@@ -1,8 +1,8 @@
 use Rattle.std.proofs.Common.{◌∙◌, ℕ, ◌<◌, sym, ap, subst, length, arith}
 use Rattle.ng_machine.specs.World.{Port}
 use Rattle.ngctl_text.specs.Captures.{capture_of}
-use Rattle.ng_seats.specs.CoreStory.{setting_of, story}
-use Rattle.ng_seats.proofs.PortCounts.{ports_stay}
+use Rattle.ng_workers.specs.CoreStory.{setting_of, story}
+use Rattle.ng_workers.proofs.PortCounts.{ports_stay}
 use Rattle.ng_story.specs.Story.{world_of}
 use Rattle.ng_run.proofs.Ports.{empty_is, some_is}
 use Rattle.ng_run.proofs.Writing.{port_is, skips, fails, whole, later}

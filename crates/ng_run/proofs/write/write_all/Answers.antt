@@ -3,7 +3,7 @@ use Rattle.std.specs.List.{list_any}
 use Rattle.ng_base.specs.declared.event.Event.{Event}
 use Rattle.ng_ends.specs.Writes.{WritesAll, StopsAt, StopsFor}
 use Rattle.ngctl_text.specs.Text.{world_text}
-use Rattle.ng_seats.specs.CoreStory.{story}
+use Rattle.ng_workers.specs.CoreStory.{story}
 use Rattle.ng_story.specs.Story.{world_of}
 use Rattle.ng_run.specs.declared.ended.Fault.TheVariants.{NoMemory}
 use Rattle.ng_run.specs.Parts.{of_files, storing}

@@ -1,6 +1,6 @@
 use Rattle.std.proofs.Common.{ℕ, ◌+◌, refl, ap}
 use Rattle.std.specs.Prelude.{is_some}
-use Rattle.ng_orders.proofs.Lists.{counts_more}
+use Rattle.ng_apply.proofs.Lists.{counts_more}
 use Rattle.ng_seats.proofs.counting.count_nodes.Goals as goal
 
 pub loop-n-preserved : goal.loop-n-preserved

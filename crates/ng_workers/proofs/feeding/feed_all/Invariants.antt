@@ -1,6 +1,6 @@
 -- Some of the inputs were fed, and the others may be.
 use Rattle.std.proofs.Common.{◌≡◌, None, false, length}
-use Rattle.ng_seats.specs.CoreStory.{story}
+use Rattle.ng_pool.specs.CoreStory.{story}
 use Rattle.ng_story.specs.Desks.{Others}
 use Rattle.ng_story.specs.Story.{has_ended}
 use Rattle.ng_workers.specs.Desks.{core_desk}

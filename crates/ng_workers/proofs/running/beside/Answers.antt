@@ -1,7 +1,7 @@
 use Rattle.std.proofs.Common.{rules, ◌≡◌, ◌<◌, [], false, vec_len, IfOk, ℕ, ◌+◌, ◌-◌, ◌*◌, ◌≤◌, length, ◌/◌, ◌%◌, Bool, true, nat_eq, nat_lt, List, ◌∷◌, ◌++◌, slice_index_or, slice_set, bit_and, bit_or, Fits, w8, w32, w64, Bor, MutBor}
 use Rattle.std.specs.Thread.{IsSend, IsSync}
 use Rattle.std.specs.Vec.{vec_capacity}
-use Rattle.ng_seats.specs.CoreStory.{CoreStory, story}
+use Rattle.ng_pool.specs.CoreStory.{CoreStory, story}
 use Rattle.ng_story.specs.Story.{AreFitFor, has_ended, run_state_of}
 use Rattle.ng_turn.specs.Words.{seat_of}
 use Rattle.ng_workers.specs.Desks.{IsOver, IsReady}
