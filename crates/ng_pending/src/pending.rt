@@ -17,7 +17,7 @@ ghost use Rattle.ng_pending.specs.Holds.{HoldsItems, IsHolding, IsOutIn, NoneOut
 
 use ng_base::{Cause, ItemId, Kind, NoMemory, NodeId, Packet, Stamp};
 use ng_machine::{Body, Fed, Input, Item, Lost};
-use ng_queue::Queues;
+use ng_queue::{BoxedItem, Queues};
 use ng_tally::Tally;
 use std::alloc::Global;
 
@@ -103,7 +103,7 @@ impl Pending {
     }
 
     /// A seat takes the item that `least` leads to.
-    pub fn take(&mut self, at: usize, _seat: u32) -> Item
+    pub fn take(&mut self, at: usize, _seat: u32) -> BoxedItem
         requires least { IsLeast self.old.queues.lists at }
         requires holds { IsHolding self.old }
         requires few { self.old.out + 1 < 2 ^ 64 }
@@ -120,7 +120,7 @@ impl Pending {
     }
 
     /// A taken item is put back at its place.
-    pub fn back(&mut self, item: Item)
+    pub fn back(&mut self, item: BoxedItem)
         requires { (a : RunState) × HoldsItems self.old a × IsOutIn a item }
         ensures holds { (a : RunState) → HoldsItems self.old a → IsOutIn a item → HoldsItems self.new (with_untaken a item.id.0) }
         ensures tally { self.new.tally ≡ self.old.tally }
@@ -167,6 +167,13 @@ impl Pending {
     {
         self.forget(item);
         self.tally.drop_for_hook(item);
+    }
+
+    /// Drops an item that is done, and keeps its place for another of its node. It takes no memory.
+    pub fn reuse(&mut self, item: BoxedItem)
+        ensures { self.new ≡ self.old }
+    {
+        self.queues.reuse(item);
     }
 
     /// Makes room for one item more at a node that has a queue.

@@ -1,15 +1,63 @@
 // The work on what a seat took.
-ghost use Rattle.std.specs.Prelude.{◌≡◌, IfOk, IfErr};
+ghost use Rattle.std.specs.Prelude.{◌≡◌, true, IfOk, IfErr};
+ghost use Rattle.std.specs.Arc.{arc_value};
+ghost use Rattle.ng_machine.specs.Body.{is_frame};
+ghost use Rattle.ng_machine.specs.Desk.{Reads, Writes};
 ghost use Rattle.ng_pool.specs.Workable.{IsWorkable};
-ghost use Rattle.ng_story.specs.Work.{IsDone};
+ghost use Rattle.ng_story.specs.Work.{IsDone, IsEvaluated};
 ghost use Rattle.ng_world.specs.Handed.{handed_with, job_with};
 
 use ng_base::NoMemory;
-use ng_machine::Body;
+use ng_machine::{Body, Item, Outcome};
 use ng_node::Node;
-use ng_plan::eval;
-use ng_world::{Done, Work};
+use ng_plan::{Plan, eval};
+use ng_world::{BoxedItem, Done, Work};
 use std::alloc::Global;
+use std::sync::Arc;
+
+// What a plan makes of a packet.
+fn evaluate(alloc: Global, item: &Item, plan: &Plan) -> Result<Outcome, NoMemory>
+    requires { is_frame item.now.body ≡ true }
+    ensures { IfOk result (λ outcome. IsEvaluated plan.now item.now.body outcome) }
+{
+    match &item.body {
+        Body::Frame {
+            door,
+            link: _,
+            packet,
+        } => eval(alloc, plan, door, packet),
+        _ => unreachable!(),
+    }
+}
+
+// Works on a packet by a plan.
+fn read<B: Node>(alloc: Global, item: BoxedItem, plan: Arc<Plan>) -> Result<Done<B>, Work<B>>
+    requires { IsWorkable (Reads item (arc_value plan)) }
+    ensures done { IfOk result (λ done. IsDone (Reads item (arc_value plan)) (handed_with B.state done)) }
+    ensures back { IfErr result (λ back. job_with B.state back ≡ Reads item (arc_value plan)) }
+{
+    match evaluate(alloc, &item, &plan) {
+        Ok(outcome) => Ok(Done::Read { item, outcome }),
+        Err(NoMemory) => Err(Work::Read { item, plan }),
+    }
+}
+
+// Works on a writer with its node.
+fn write<B: Node>(alloc: Global, item: BoxedItem, node: B) -> Result<Done<B>, Work<B>>
+    requires { IsWorkable (Writes item (B.state node)) }
+    ensures done { IfOk result (λ done. IsDone (Writes item (B.state node)) (handed_with B.state done)) }
+    ensures back { IfErr result (λ back. job_with B.state back ≡ Writes item (B.state node)) }
+{
+    let mut node = node;
+    match node.write(alloc, &item.body) {
+        Ok(outcome) => Ok(Done::Write {
+            item,
+            node,
+            outcome,
+        }),
+        Err(NoMemory) => Err(Work::Write { item, node }),
+    }
+}
 
 /// Works on what was taken: what a packet's plan makes of it, or what the node does with a writer, which has worked on it then.
 /// An item that needs no work outside is handed on. Nothing of the core is read or changed.
@@ -22,25 +70,8 @@ pub fn work<B: Node>(alloc: Global, work: Work<B>) -> Result<Done<B>, Work<B>>
     ensures back { IfErr result (λ back. job_with B.state back ≡ job_with B.state work) }
 {
     match work {
-        Work::Read { item, plan } => match &item.body {
-            Body::Frame {
-                door,
-                link: _,
-                packet,
-            } => match eval(alloc, &plan, door, packet) {
-                Ok(outcome) => Ok(Done::Read { item, outcome }),
-                Err(NoMemory) => Err(Work::Read { item, plan }),
-            },
-            _ => unreachable!(),
-        },
-        Work::Write { item, mut node } => match node.write(alloc, &item.body) {
-            Ok(outcome) => Ok(Done::Write {
-                item,
-                node,
-                outcome,
-            }),
-            Err(NoMemory) => Err(Work::Write { item, node }),
-        },
+        Work::Read { item, plan } => read(alloc, item, plan),
+        Work::Write { item, node } => write(alloc, item, node),
         Work::Inside { item } => Ok(Done::Inside { item }),
     }
 }

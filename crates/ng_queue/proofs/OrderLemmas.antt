@@ -214,3 +214,7 @@ out_head low (Out m ∷ es) p a h =
     let le = head_above (m.id.0 + 1) es p a.1 h in
     let other : (m.id.0 == p.id.0) ≡ false = grind arith in
     rw other (out_head (m.id.0 + 1) es p a.1 h)
+
+pub first_removed : (es : List Entry) → drop 1 es ≡ remove es 0
+first_removed [] = refl
+first_removed (e ∷ es) = refl

@@ -11,7 +11,7 @@ use Rattle.ng_queue.specs.declared.entry.Entry.{Entry}
 use Rattle.ng_queue.specs.declared.entry.Entry.TheVariants.{Waiting, Out}
 use Rattle.ng_queue.specs.declared.entry.Hold.TheVariants.{Empty}
 use Rattle.ng_queue.specs.Places.{IsHeadAt, WaitsAs, IsOutAt, OutAs}
-use Rattle.ng_queue.specs.Queue.{AllWait, IsOut, head, out_count, writer_out, lane_out, hold_of, hold_from, hold_unless}
+use Rattle.ng_queue.specs.Queue.{AllWait, IsOut, head, out_count, writer_out, lane_out, hold_of, hold_from, hold_unless, readers_in, same_hook}
 
 pub drop_read : (es : List Entry) (i : ℕ) (e : Entry) → i < length es → e ≡ get_or es i e → drop i es ≡ e ∷ drop (i + 1) es
 drop_read es i e lt is = drop_more es i e lt ∙ ap (λ (x : Entry). x ∷ drop (i + 1) es) (sym is)
@@ -117,3 +117,7 @@ hold_head es at p lt is h = ap (λ (o : Option Item). hold_from o es) (head_is e
 
 pub head_none : (es : List Entry) (at : ℕ) → length es ≤ at → IsHeadAt es at → head es ≡ None
 head_none es at le h = subst (WaitsAs (head es)) (get_past es at le) h
+
+pub hold_none : (es : List Entry) (writer : Bool) (lane : Option Lane) → AllWait es → hold_unless (writer_out es) writer lane es ≡ None
+hold_none es true lane w = ap (λ (o : Option ItemId). hold_unless o true lane es) (writer_none es w) ∙ ap readers_in (out_none es w)
+hold_none es false lane w = ap (λ (o : Option ItemId). hold_unless o false lane es) (writer_none es w) ∙ ap same_hook (lane_none lane es w)

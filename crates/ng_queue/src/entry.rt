@@ -1,6 +1,7 @@
 // The entries of a queue, and why its head is held back.
+use crate::BoxedItem;
 use ng_base::ItemId;
-use ng_machine::{Item, Lane};
+use ng_machine::Lane;
 use thiserror::Error;
 
 /// What a queue keeps of an item that was taken and is not applied yet: an item that is out.
@@ -18,7 +19,7 @@ pub struct Mark {
 #[derive(Drop)]
 pub enum Entry {
     /// The item waits.
-    Waiting(Item),
+    Waiting(BoxedItem),
     /// The item is out.
     Out(Mark),
 }

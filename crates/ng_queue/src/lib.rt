@@ -5,6 +5,7 @@
 //! taken only where nothing before it waits.
 #![tactic(auto)]
 
+mod boxed;
 mod entry;
 mod laws;
 mod queue;
@@ -12,6 +13,7 @@ mod queues;
 mod ready;
 mod scan;
 
+pub use boxed::{BoxedItem, Slot};
 pub use entry::{Entry, Hold, Mark};
 pub use laws::{free_is_takeable, takeable_is_free};
 pub use queue::NodeQueue;

@@ -1,5 +1,5 @@
 // A node's queue.
-ghost use Rattle.std.specs.Prelude.{◌≡◌, ◌+◌, ◌-◌, ◌<◌, ◌≤◌, ◌++◌, ◌∷◌, [], map, filter, set, Some, None, OnOk, OnErr, IfOk, IfErr, MatchOption};
+ghost use Rattle.std.specs.Prelude.{◌≡◌, ◌+◌, ◌-◌, ◌<◌, ◌≤◌, ◌++◌, ◌∷◌, [], map, filter, remove, set, vec_len, Some, None, OnOk, OnErr, IfOk, IfErr, MatchOption};
 ghost use Rattle.std.specs.VecDeque.{deque_len, deque_capacity};
 ghost use Rattle.ng_queue.specs.Places.{IsHeadAt};
 ghost use Rattle.ng_queue.specs.Queue.{empty_queue, head, hold_of, take_out, put_back, is_other, mark_of, waiting_items, AllWait, IsBelow, IsOutAs, IsOut};
@@ -8,7 +8,7 @@ ghost use Rattle.ng_queue.specs.Takeable.{IsTakeable};
 ghost use Rattle.ng_queue.specs.declared.entry.Entry.TheVariants.{Waiting, Out};
 
 use crate::scan::{find_place_out, first_waiting, hold};
-use crate::{Entry, Hold, Mark};
+use crate::{BoxedItem, Entry, Hold, Mark, Slot};
 use ng_base::{ItemId, NoMemory};
 use ng_machine::Item;
 use std::alloc::Global;
@@ -25,6 +25,8 @@ pub struct NodeQueue {
     entries: VecDeque<Entry>,
     // Room for all items, for a purge. It holds none.
     purged: Vec<Item>,
+    // Places for the items that are pushed, and such as items left.
+    slots: Vec<Slot>,
     // From here on all entries wait.
     reach: usize,
     spare: usize,
@@ -54,7 +56,7 @@ fn mark_of(item: &Item) -> Mark
 
 // Takes the item at the head's place, and leaves its mark there.
 #[tactic(auto, using(crate::proofs::ScanLemmas::head_not, crate::proofs::ScanLemmas::head_is))]
-fn take_at(entries: &mut VecDeque<Entry>, at: usize) -> Item
+fn take_at(entries: &mut VecDeque<Entry>, at: usize) -> BoxedItem
     requires at { at < deque_len entries.old }
     requires head { IsHeadAt entries.old.items at }
     ensures item { head entries.old.items ≡ Some result }
@@ -72,6 +74,32 @@ fn take_at(entries: &mut VecDeque<Entry>, at: usize) -> Item
     }
 }
 
+// Takes the entry at a place out.
+#[tactic(auto, using(crate::proofs::OrderLemmas::first_removed))]
+fn remove_at(entries: &mut VecDeque<Entry>, at: usize)
+    requires { at < deque_len entries.old }
+    ensures items { entries.new.items ≡ remove entries.old.items at }
+    ensures len { deque_len entries.new + 1 ≡ deque_len entries.old }
+    ensures capacity { deque_capacity entries.new ≡ deque_capacity entries.old }
+{
+    if at == 0 {
+        let _first = entries.pop_front();
+    } else {
+        let _entry = entries.remove(at);
+    }
+}
+
+// Makes places, until there are so many.
+fn add_slots(slots: &mut Vec<Slot>, alloc: Global, n: usize) -> Result<(), NoMemory>
+    ensures enough { OnOk result (n ≤ vec_len slots.new) }
+    ensures more { vec_len slots.old ≤ vec_len slots.new }
+{
+    for _ in slots.len()..n {
+        slots.push(Slot::new(alloc)?)?;
+    }
+    Ok(())
+}
+
 impl NodeQueue {
     /// No items, and no room for any.
     ///
@@ -83,6 +111,7 @@ impl NodeQueue {
         Ok(NodeQueue {
             entries: VecDeque::new(alloc),
             purged: Vec::new(alloc),
+            slots: Vec::new(alloc),
             reach: 0,
             spare: 0,
             alloc,
@@ -102,6 +131,7 @@ impl NodeQueue {
         if self.spare < n {
             self.entries.reserve(n)?;
             self.purged.reserve(self.entries.len() + n)?;
+            add_slots(&mut self.slots, self.alloc, n)?;
             self.spare = n;
         }
         Ok(())
@@ -120,6 +150,7 @@ impl NodeQueue {
         let more = self.spare + 1;
         self.entries.reserve(more)?;
         self.purged.reserve(self.entries.len() + more)?;
+        add_slots(&mut self.slots, self.alloc, more)?;
         self.spare = more;
         Ok(())
     }
@@ -141,7 +172,11 @@ impl NodeQueue {
         ensures entries { self.new.entries ≡ self.old.entries ++ Waiting item ∷ [] }
         ensures spare { self.new.spare + 1 ≡ self.old.spare }
     {
-        self.entries.push_back_reserved(Entry::Waiting(item));
+        let Some(slot) = self.slots.pop() else {
+            unreachable!()
+        };
+        self.entries
+            .push_back_reserved(Entry::Waiting(slot.fill(item)));
         self.spare -= 1;
     }
 
@@ -183,7 +218,7 @@ impl NodeQueue {
     /// The first of these that holds, and the queue is then as before: `Empty` where no item waits; `WriterIn` where
     /// a writer is out; `ReadersIn` where the head is a writer and other items are out; `SameHook` where the head is
     /// a reader and an item of its lane is out.
-    pub fn take(&mut self) -> Result<Item, Hold>
+    pub fn take(&mut self) -> Result<BoxedItem, Hold>
         ensures refused { IfErr result (λ why. hold_of self.old.entries ≡ Some why) }
         ensures same { OnErr result (self.new ≡ self.old) }
         ensures free { OnOk result (hold_of self.old.entries ≡ None) }
@@ -203,7 +238,7 @@ impl NodeQueue {
 
     /// Takes the first item that waits, which nothing holds back. It takes no memory.
     #[tactic(auto, using(crate::proofs::OrderLemmas::take_out_head, crate::proofs::OrderLemmas::ascends_take_out, crate::proofs::OrderLemmas::waits_set,))]
-    pub(crate) fn take_head(&mut self) -> Item
+    pub(crate) fn take_head(&mut self) -> BoxedItem
         requires { hold_of self.old.entries ≡ None }
         ensures takeable { IsTakeable self.old.entries result }
         ensures entries { self.new.entries ≡ map (take_out result.id) self.old.entries }
@@ -234,7 +269,7 @@ impl NodeQueue {
 
     /// Puts an item back at its place, where an item of its number, mode and lane is out. It takes no memory.
     #[tactic(auto, using(crate::proofs::OrderLemmas::out_id, crate::proofs::OrderLemmas::put_back_at, crate::proofs::OrderLemmas::ascends_put_back, crate::proofs::OrderLemmas::waits_set,))]
-    pub fn back(&mut self, item: Item)
+    pub fn back(&mut self, item: BoxedItem)
         requires { IsOutAs (mark_of item) self.old.entries }
         ensures entries { self.new.entries ≡ map (put_back item) self.old.entries }
         ensures spare { self.new.spare ≡ self.old.spare }
@@ -251,8 +286,18 @@ impl NodeQueue {
         ensures spare { self.new.spare ≡ self.old.spare }
     {
         let at = find_place_out(&self.entries, self.reach, id);
-        let _entry = self.entries.remove(at);
+        remove_at(&mut self.entries, at);
         self.reach -= 1;
+    }
+
+    /// Drops an item that isn't in the queue, and keeps its place for one that will be, where there is room for that. It
+    /// takes no memory.
+    pub fn reuse(&mut self, item: BoxedItem)
+        ensures { self.new ≡ self.old }
+    {
+        if self.slots.len() < self.slots.capacity() {
+            self.slots.push_reserved(item.into_slot());
+        }
     }
 
     /// All items that wait, in order, where none is out. The queue is empty then, and has room for none. It takes no
@@ -264,9 +309,11 @@ impl NodeQueue {
     {
         while let Some(entry) = self.entries.pop_front() {
             if let Entry::Waiting(item) = entry {
+                let (item, _slot) = item.part();
                 self.purged.push_reserved(item);
             }
         }
+        self.slots = Vec::new(self.alloc);
         self.reach = 0;
         self.spare = 0;
         mem::replace(&mut self.purged, Vec::new(self.alloc))

@@ -6,7 +6,7 @@ ghost use Rattle.ng_queue.specs.declared.entry.Entry.TheVariants.{Waiting};
 ghost use Rattle.ng_machine.specs.World.{item_id};
 
 use crate::ready::Ready;
-use crate::{Entry, NodeQueue};
+use crate::{BoxedItem, Entry, NodeQueue};
 use ng_base::{ItemId, NoMemory};
 use ng_machine::Item;
 use std::alloc::Global;
@@ -126,7 +126,7 @@ impl Queues {
     }
 
     /// Takes the head of the queue that `least` answers. It takes no memory.
-    pub fn take(&mut self, at: usize) -> Item
+    pub fn take(&mut self, at: usize) -> BoxedItem
         requires { IsLeast self.old.lists at }
         ensures head { head (list_at self.old.lists at) ≡ Some result }
         ensures lists { self.new.lists ≡ set self.old.lists at (map (take_out result.id) (list_at self.old.lists at)) }
@@ -138,7 +138,7 @@ impl Queues {
     }
 
     /// Puts an item back at its place, where an item of its number, mode and lane is out. It takes no memory.
-    pub fn back(&mut self, at: usize, item: Item)
+    pub fn back(&mut self, at: usize, item: BoxedItem)
         requires there { at < length self.old.lists }
         requires out { IsOutAs (mark_of item) (list_at self.old.lists at) }
         ensures lists { self.new.lists ≡ set self.old.lists at (map (put_back item) (list_at self.old.lists at)) }
@@ -157,6 +157,17 @@ impl Queues {
     {
         self.queues[at].done(id);
         self.ready.put(at, self.queues[at].ready());
+    }
+
+    /// Drops an item that isn't in its node's queue any more, and keeps its place for another of that node, where there is
+    /// room for that. It takes no memory.
+    pub fn reuse(&mut self, item: BoxedItem)
+        ensures { self.new ≡ self.old }
+    {
+        let at = item.to.0 as usize;
+        if at < self.queues.len() {
+            self.queues[at].reuse(item);
+        }
     }
 
     /// All items that wait at this node, in order, where none is out. It takes no memory.

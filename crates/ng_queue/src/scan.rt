@@ -138,7 +138,7 @@ pub fn find_place_out(entries: &VecDeque<Entry>, reach: usize, id: ItemId) -> us
 }
 
 /// Why the head can't be taken, which is at this place.
-#[tactic(auto, using(crate::proofs::ScanLemmas::hold_empty, crate::proofs::ScanLemmas::hold_head,))]
+#[tactic(auto, using(crate::proofs::ScanLemmas::hold_empty, crate::proofs::ScanLemmas::hold_head, crate::proofs::ScanLemmas::hold_none,))]
 pub fn hold(entries: &VecDeque<Entry>, reach: usize, at: usize) -> Option<Hold>
     requires reach { reach ≤ deque_len entries.now }
     requires waits { AllWait (drop reach entries.now.items) }
@@ -150,6 +150,8 @@ pub fn hold(entries: &VecDeque<Entry>, reach: usize, at: usize) -> Option<Hold>
         return Some(Hold::Empty);
     }
     match &entries[at] {
+        // Where nothing is out, nothing holds the head back.
+        Entry::Waiting(_) if reach == 0 => None,
         Entry::Waiting(item) => hold_item(entries, reach, item.writer, &item.body.lane()),
         Entry::Out(_) => unreachable!(),
     }

@@ -15,6 +15,7 @@ use ng_base::NodeId;
 use ng_machine::{Counts, Item};
 use ng_node::Node;
 use ng_plan::Plan;
+use ng_queue::BoxedItem;
 use ng_world::State;
 use std::sync::Arc;
 
@@ -60,4 +61,11 @@ pub fn bring_home<B: Node>(state: &mut State<B>, at: NodeId, node: B, plan: Opti
     ensures ports { state.new.ports ≡ state.old.ports }
 {
     state.graph.give(at, node, plan);
+}
+
+/// An item that is applied is dropped, and its place kept for another.
+pub fn reuse<B: Node>(state: &mut State<B>, item: BoxedItem)
+    ensures { state.new ≡ state.old }
+{
+    state.pending.reuse(item);
 }

@@ -9,12 +9,39 @@ ghost use Rattle.ng_world.specs.Stands.{Stands};
 ghost use Rattle.ng_service.specs.Work.{IsReadAt};
 
 use crate::conclusion::{conclude, is_short, target};
-use crate::parts::{absorb, finish};
+use crate::parts::{absorb, finish, reuse};
 use crate::room::make_room;
 use ng_machine::{Item, Outcome};
 use ng_node::Node;
+use ng_queue::BoxedItem;
 use ng_world::State;
 use std::alloc::Global;
+
+// The same, of an item that stays with the caller.
+fn apply_read_item<B: Node>(
+    alloc: Global,
+    state: &mut State<B>,
+    item: &Item,
+    outcome: Outcome,
+) -> Result<(), Outcome>
+    requires work { (a : RunState) × (node : NodeRecord) × Stands state.old a × IsAtNode a item.now node × IsLow a.world × IsReadAt item.now node outcome }
+    requires home { is_home state.old.graph item.now.to ≡ true }
+    ensures applied { OnOk result ((a : RunState) (node : NodeRecord) → Stands state.old a → IsAtNode a item.now node → IsLow a.world
+        → IsReadAt item.now node outcome → Stands state.new (applied_from a item.now)) }
+    ensures err { OnErr result ((a : RunState) → Stands state.old a → Stands state.new a) }
+    ensures back { IfErr result (λ it. it ≡ outcome) }
+{
+    if !is_short(&outcome.answer) {
+        return Err(outcome);
+    }
+    let Ok(()) = make_room(state, item.to, &outcome, target(item, &outcome)) else {
+        return Err(outcome);
+    };
+    finish(state, item);
+    absorb(state, item.to, &outcome.counts);
+    conclude(alloc, state, item, outcome);
+    Ok(())
+}
 
 /// Applies a packet of a kind that reads: what its plan made of it comes about. Its node's box is at home.
 ///
@@ -23,9 +50,9 @@ use std::alloc::Global;
 pub fn apply_read<B: Node>(
     alloc: Global,
     state: &mut State<B>,
-    item: Item,
+    item: BoxedItem,
     outcome: Outcome,
-) -> Result<(), (Item, Outcome)>
+) -> Result<(), (BoxedItem, Outcome)>
     requires work { (a : RunState) × (node : NodeRecord) × Stands state.old a × IsAtNode a item node × IsLow a.world × IsReadAt item node outcome }
     requires home { is_home state.old.graph item.to ≡ true }
     ensures applied { OnOk result ((a : RunState) (node : NodeRecord) → Stands state.old a → IsAtNode a item node → IsLow a.world
@@ -33,14 +60,11 @@ pub fn apply_read<B: Node>(
     ensures err { OnErr result ((a : RunState) → Stands state.old a → Stands state.new a) }
     ensures back { IfErr result (λ it. it ≡ (item, outcome)) }
 {
-    if !is_short(&outcome.answer) {
-        return Err((item, outcome));
+    match apply_read_item(alloc, state, &item, outcome) {
+        Ok(()) => {
+            reuse(state, item);
+            Ok(())
+        }
+        Err(outcome) => Err((item, outcome)),
     }
-    let Ok(()) = make_room(state, item.to, &outcome, target(&item, &outcome)) else {
-        return Err((item, outcome));
-    };
-    finish(state, &item);
-    absorb(state, item.to, &outcome.counts);
-    conclude(alloc, state, &item, outcome);
-    Ok(())
 }

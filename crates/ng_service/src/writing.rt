@@ -8,12 +8,43 @@ ghost use Rattle.ng_world.specs.Stands.{Stands};
 ghost use Rattle.ng_service.specs.Work.{IsWrittenAt};
 
 use crate::conclusion::{conclude, is_short, target};
-use crate::parts::{bring_home, finish};
+use crate::parts::{bring_home, finish, reuse};
 use crate::room::make_room;
 use ng_machine::{Item, Outcome};
 use ng_node::Node;
+use ng_queue::BoxedItem;
 use ng_world::State;
 use std::alloc::Global;
+
+// The same, of an item that stays with the caller.
+fn apply_write_item<B: Node>(
+    alloc: Global,
+    state: &mut State<B>,
+    item: &Item,
+    node: B,
+    outcome: Outcome,
+) -> Result<(), (B, Outcome)>
+    requires work { (a : RunState) × (was : NodeRecord) × Stands state.old a × IsAtNode a item.now was × IsLow a.world
+        × IsWrittenAt item.now was (B.state node) outcome }
+    ensures applied { OnOk result ((a : RunState) (was : NodeRecord) → Stands state.old a → IsAtNode a item.now was → IsLow a.world
+        → IsWrittenAt item.now was (B.state node) outcome → Stands state.new (applied_from a item.now)) }
+    ensures err { OnErr result ((a : RunState) → Stands state.old a → Stands state.new a) }
+    ensures back { IfErr result (λ it. it ≡ (node, outcome)) }
+{
+    if !is_short(&outcome.answer) {
+        return Err((node, outcome));
+    }
+    let Ok(plan) = node.plan(alloc) else {
+        return Err((node, outcome));
+    };
+    let Ok(()) = make_room(state, item.to, &outcome, target(item, &outcome)) else {
+        return Err((node, outcome));
+    };
+    bring_home(state, item.to, node, plan);
+    finish(state, item);
+    conclude(alloc, state, item, outcome);
+    Ok(())
+}
 
 /// Applies a writer that the node's box worked on: the box comes home, and what the outcome says comes about. A message of the
 /// type that is refused is told and changes nothing.
@@ -23,10 +54,10 @@ use std::alloc::Global;
 pub fn apply_write<B: Node>(
     alloc: Global,
     state: &mut State<B>,
-    item: Item,
+    item: BoxedItem,
     node: B,
     outcome: Outcome,
-) -> Result<(), (Item, B, Outcome)>
+) -> Result<(), (BoxedItem, B, Outcome)>
     requires work { (a : RunState) × (was : NodeRecord) × Stands state.old a × IsAtNode a item was × IsLow a.world
         × IsWrittenAt item was (B.state node) outcome }
     ensures applied { OnOk result ((a : RunState) (was : NodeRecord) → Stands state.old a → IsAtNode a item was → IsLow a.world
@@ -34,17 +65,11 @@ pub fn apply_write<B: Node>(
     ensures err { OnErr result ((a : RunState) → Stands state.old a → Stands state.new a) }
     ensures back { IfErr result (λ it. it ≡ (item, node, outcome)) }
 {
-    if !is_short(&outcome.answer) {
-        return Err((item, node, outcome));
+    match apply_write_item(alloc, state, &item, node, outcome) {
+        Ok(()) => {
+            reuse(state, item);
+            Ok(())
+        }
+        Err((node, outcome)) => Err((item, node, outcome)),
     }
-    let Ok(plan) = node.plan(alloc) else {
-        return Err((item, node, outcome));
-    };
-    let Ok(()) = make_room(state, item.to, &outcome, target(&item, &outcome)) else {
-        return Err((item, node, outcome));
-    };
-    bring_home(state, item.to, node, plan);
-    finish(state, &item);
-    conclude(alloc, state, &item, outcome);
-    Ok(())
 }

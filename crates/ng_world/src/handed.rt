@@ -3,20 +3,21 @@ ghost use Rattle.std.specs.Prelude.{◌≡◌};
 ghost use Rattle.ng_world.specs.Handed.{item_done, item_of};
 
 use ng_base::{ItemId, NodeId};
-use ng_machine::{Item, Outcome};
+use ng_machine::Outcome;
 use ng_node::Node;
 use ng_plan::Plan;
+use ng_queue::BoxedItem;
 use std::sync::Arc;
 
 /// What a seat takes: an item, and what it is worked on with.
 #[derive(Drop)]
 pub enum Work<B: Node> {
     /// A packet, and the plan of its node.
-    Read { item: Item, plan: Arc<Plan> },
+    Read { item: BoxedItem, plan: Arc<Plan> },
     /// A writer, and the node itself.
-    Write { item: Item, node: B },
+    Write { item: BoxedItem, node: B },
     /// An item that needs no work outside.
-    Inside { item: Item },
+    Inside { item: BoxedItem },
 }
 
 /// What an item is worked on with.
@@ -59,18 +60,18 @@ impl<B: Node> Work<B> {
 pub enum Done<B: Node> {
     /// A packet, and what the plan of its node made of it.
     Read {
-        item: Item,
+        item: BoxedItem,
         outcome: Outcome,
     },
     /// A writer, the node that worked on it, and what came of that.
     Write {
-        item: Item,
+        item: BoxedItem,
         node: B,
         outcome: Outcome,
     },
     /// An item that needs no work outside.
     Inside {
-        item: Item,
+        item: BoxedItem,
     },
 }
 

@@ -11,9 +11,9 @@ ghost use Rattle.ng_world.specs.Stands.{MayLeave, Stands};
 
 use crate::State;
 use ng_base::NodeId;
-use ng_machine::Item;
 use ng_node::Node;
 use ng_plan::Plan;
+use ng_queue::BoxedItem;
 use std::sync::Arc;
 
 impl<B: Node> State<B> {
@@ -31,7 +31,7 @@ impl<B: Node> State<B> {
     }
 
     /// A taken item is put back at its place; where it is a writer, its node's box is at home.
-    pub fn back(&mut self, item: Item)
+    pub fn back(&mut self, item: BoxedItem)
         requires out { (a : RunState) × Stands self.old a × IsOutIn a item }
         requires leaves { MayLeave self.old.graph item }
         ensures stands { (a : RunState) → Stands self.old a → IsOutIn a item → Stands self.new (with_untaken a item.id.0) }

@@ -11,4 +11,5 @@ mod taking;
 mod telling;
 
 pub use handed::{Done, Work};
+pub use ng_queue::{BoxedItem, Slot};
 pub use state::{Port, State};

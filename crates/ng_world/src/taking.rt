@@ -23,6 +23,7 @@ use ng_base::{Kind, LinkId, Name, NoMemory, NodeId};
 use ng_machine::{Body, Door, Item};
 use ng_message::{ANSWER_FLAG, GENERIC_COOKIE, Msg};
 use ng_node::Node;
+use ng_queue::BoxedItem;
 use ng_topology::Graph;
 
 // The cookie of the first type's own messages; the others follow in the order of the types.
@@ -104,7 +105,7 @@ impl<B: Node> State<B> {
     }
 
     // Takes the item that the queue with the least has.
-    fn take_at(&mut self, at: usize, _seat: u32) -> Item
+    fn take_at(&mut self, at: usize, _seat: u32) -> BoxedItem
         requires least { IsLeast self.old.pending.queues.lists at }
         requires standing { IsStanding self.old }
         requires few { self.old.pending.out + 1 < 2 ^ 64 }

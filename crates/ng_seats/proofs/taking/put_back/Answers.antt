@@ -1,13 +1,19 @@
-use Rattle.std.proofs.Common.{◌∙◌, inr, refl, sym, ap, subst}
+use Rattle.std.proofs.Common.{◌≡◌, ◌∙◌, inr, refl, sym, ap, subst}
+use Rattle.ng_machine.specs.declared.item.Item.{Item}
 use Rattle.ng_machine.specs.Desk.{job_at}
 use Rattle.ng_world.specs.declared.handed.Work.{Work}
 use Rattle.ng_world.specs.Stands.{Stands}
 use Rattle.ng_pending.specs.Holds.{with_untaken}
-use Rattle.ng_topology.specs.Topology.{Topology, is_home}
+use Rattle.ng_topology.specs.Topology.{Topology, give_box, is_home}
 use Rattle.ng_world.specs.Handed.{item_of}
 use Rattle.ng_seats.specs.Away.{IsAwayWith}
 use Rattle.ng_seats.proofs.PutBack.{home_restored, may_leave, not_read, not_within, stands_restored, written_state}
 use Rattle.ng_seats.proofs.taking.put_back.Goals as goal
+use Rattle.ng_seats.proofs.taking.put_back.Goals.{After-restore}
+
+-- the box is back at the item's node
+restored : (g : _) (c : After-restore g) → c.restore.new.self ≡ give_box c.args.state.now.graph c.in-Write.item.to (g.B.Node.state c.in-Write.node)
+restored g c = subst (λ (x : Item). c.restore.new.self ≡ give_box c.args.state.now.graph x.to (g.B.Node.state c.in-Write.node)) c.deref.ensures c.restore.ensures
 
 pub back-requires-clause-leaves : goal.back-requires-clause-leaves
 back-requires-clause-leaves g c κs within =
@@ -21,7 +27,7 @@ back-requires-in-Write-clause-out g c κs within =
     let A = subst (IsAwayWith g.B.Node.state a) c.in-Write.is c.requires.work.2 in
     let t = S.there c.in-Write.item A.out.0 in
     let is = written_state c.in-Write.item t.0 (g.B.Node.state c.in-Write.node) (ap (job_at c.in-Write.item) (sym t.1) ∙ A.job) in
-    (a, stands_restored c.args.state.now (record c.args.state.now { graph = c.restore.new.self }) a c.in-Write.item.to t.0 (g.B.Node.state c.in-Write.node) S t.1 is c.restore.ensures refl refl refl, A.out)
+    (a, stands_restored c.args.state.now (record c.args.state.now { graph = c.restore.new.self }) a c.in-Write.item.to t.0 (g.B.Node.state c.in-Write.node) S t.1 is (restored g (goal.at.back-requires-in-Write-clause-out g c).After-restore) refl refl refl, A.out)
 
 pub back-requires-in-Write-clause-leaves : goal.back-requires-in-Write-clause-leaves
 back-requires-in-Write-clause-leaves g c κs within =
@@ -29,14 +35,14 @@ back-requires-in-Write-clause-leaves g c κs within =
     let S = c.requires.work.1 in
     let A = subst (IsAwayWith g.B.Node.state a) c.in-Write.is c.requires.work.2 in
     let t = S.there c.in-Write.item A.out.0 in
-    inr (ap (λ (g : Topology). is_home g c.in-Write.item.to) c.restore.ensures ∙ home_restored c.args.state.now a c.in-Write.item.to t.0 (g.B.Node.state c.in-Write.node) S t.1)
+    inr (ap (λ (t : Topology). is_home t c.in-Write.item.to) (restored g (goal.at.back-requires-in-Write-clause-leaves g c).After-restore) ∙ home_restored c.args.state.now a c.in-Write.item.to t.0 (g.B.Node.state c.in-Write.node) S t.1)
 
 pub returns-in-Write : goal.returns-in-Write
 returns-in-Write g c = λ a S W.
     let A = subst (IsAwayWith g.B.Node.state a) c.in-Write.is W in
     let t = S.there c.in-Write.item A.out.0 in
     let is = written_state c.in-Write.item t.0 (g.B.Node.state c.in-Write.node) (ap (job_at c.in-Write.item) (sym t.1) ∙ A.job) in
-    let R = stands_restored c.args.state.now (record c.args.state.now { graph = c.restore.new.self }) a c.in-Write.item.to t.0 (g.B.Node.state c.in-Write.node) S t.1 is c.restore.ensures refl refl refl in
+    let R = stands_restored c.args.state.now (record c.args.state.now { graph = c.restore.new.self }) a c.in-Write.item.to t.0 (g.B.Node.state c.in-Write.node) S t.1 is (restored g (goal.at.returns-in-Write g c).After-restore) refl refl refl in
     subst (λ (w : Work g.row.B.Denot). Stands c.back-in-Write.new.self (with_untaken a (item_of w).id.0)) (sym c.in-Write.is) (c.back-in-Write.ensures.stands a R A.out)
 
 pub back-requires-in-Inside-clause-leaves : goal.back-requires-in-Inside-clause-leaves

@@ -1,91 +1,16 @@
-use Rattle.std.proofs.Common.{◌≡◌, ◌∙◌, inr, ℕ, ◌+◌, ◌≤◌, ◌^◌, List, length, set, sym, ap, subst, arith, refl}
-use Rattle.std.specs.declared.option.Option.{Option}
-use Rattle.std.specs.declared.option.Option.TheVariants.{Some}
-use Rattle.ng_base.specs.declared.ids.NodeId.{NodeId}
+use Rattle.std.proofs.Common.{sym, subst}
 use Rattle.ng_machine.specs.declared.item.Item.{Item}
+use Rattle.ng_machine.specs.LowRun.{IsLow}
 use Rattle.ng_machine.specs.Run.{RunState}
-use Rattle.ng_machine.specs.State.{KindState}
-use Rattle.ng_machine.specs.World.{NodeRecord, node_in}
-use Rattle.ng_pending.specs.declared.pending.Pending.{Pending}
-use Rattle.ng_pending.specs.Holds.{done_from, in_world}
-use Rattle.ng_queue.specs.Queues.{spare_at}
-use Rattle.ng_step.specs.Applied.{IsAtNode}
-use Rattle.ng_tally.specs.declared.tally.Tally.{Tally}
-use Rattle.ng_tally.specs.Tally.{HasNumbers}
-use Rattle.ng_topology.specs.Topology.{FitsNode, Topology, change_node, is_home, with_kept}
-use Rattle.ng_world.specs.Room.{wants}
+use Rattle.ng_machine.specs.World.{NodeRecord}
+use Rattle.ng_step.specs.Applied.{IsAtNode, applied_from}
+use Rattle.ng_world.specs.declared.state.State.{State}
 use Rattle.ng_world.specs.Stands.{Stands}
-use Rattle.ng_service.specs.Followers.{needs, target_by}
-use Rattle.ng_service.proofs.LeavingRoom.{leaving_kept}
-use Rattle.ng_service.proofs.NodesChanged.{home_given, wants_changed}
-use Rattle.ng_service.proofs.Numbers.{fewer_numbers, has_numbers}
-use Rattle.ng_service.proofs.Writings.{written_applied, written_fits, written_may}
+use Rattle.ng_service.specs.Work.{IsWrittenAt}
 use Rattle.ng_service.proofs.writing.apply_write.Goals as goal
-use Rattle.ng_service.proofs.writing.apply_write.Goals.{After-finish}
 
-pub bring_home-requires-clause-fits : goal.bring_home-requires-clause-fits
-bring_home-requires-clause-fits g c κs within = λ node here.
-    let found : node_in c.args.state.now.graph.nodes c.args.item.to ≡ Some c.requires.work.1 =
-    ap (λ (l : List (Option NodeRecord)). node_in l c.args.item.to) c.requires.work.2.graph.nodes ∙ c.requires.work.3.here in
-    let both : Some c.requires.work.1 ≡ Some node = sym found ∙ sym (ap (λ (t : Topology). node_in t.nodes c.args.item.to) c.make_room.ensures.graph) ∙ here in
-    let same : c.requires.work.1 ≡ node = cc in
-    subst (λ (r : NodeRecord). FitsNode r (g.B.Node.state c.args.node)) same (written_fits c.args.item c.requires.work.1 (g.B.Node.state c.args.node) c.args.outcome c.requires.work.5)
-
-pub finish-requires-clause-leaves : goal.finish-requires-clause-leaves
-finish-requires-clause-leaves g c κs within =
-    inr (ap (λ (t : Topology). is_home t c.args.item.to) c.bring_home.ensures.graph
-    ∙ home_given c.make_room.new.state c.requires.work.0 c.args.item.to c.requires.work.1 (g.B.Node.state c.args.node) (c.make_room.ensures.stands c.requires.work.0 c.requires.work.2) c.requires.work.3.here)
-
-pub finish-requires-clause-numbers : goal.finish-requires-clause-numbers
-finish-requires-clause-numbers g c κs within =
-    subst (λ (p : Pending). HasNumbers 1 p.tally) (sym c.bring_home.ensures.pending) (subst (λ (t : Tally). HasNumbers 1 t) (sym c.make_room.ensures.tally)
-    (fewer_numbers 1 (2 ^ 62) c.args.state.now.pending.tally (omega arith) (has_numbers c.args.state.now c.requires.work.0 c.requires.work.2 c.requires.work.4)))
-
--- the run after the box came home
-abbrev home_run : RunState → Item → NodeRecord → KindState → RunState
-home_run a item was kept = in_world a (record a.world { nodes = set a.world.nodes item.to.0 (Some (with_kept kept was)) })
-
-stands_finished : (g : _) (c : After-finish g) (a : RunState) (was : NodeRecord) → Stands c.args.state.now a → IsAtNode a c.args.item was → Stands c.finish.new.state (done_from (home_run a c.args.item was (g.B.Node.state c.args.node).kept) c.args.item)
-stands_finished g c a was S at =
-    c.finish.ensures.stands (home_run a c.args.item was (g.B.Node.state c.args.node).kept) (c.bring_home.ensures.stands a was (c.make_room.ensures.stands a S) at.here) at.out
-
-pub conclude-requires-clause-standing : goal.conclude-requires-clause-standing
-conclude-requires-clause-standing g c κs within =
-    let at = (goal.at.conclude-requires-clause-standing g c).After-finish in
-    (done_from (home_run c.requires.work.0 c.args.item c.requires.work.1 (g.B.Node.state c.args.node).kept) c.args.item, stands_finished g at c.requires.work.0 c.requires.work.1 c.requires.work.2 c.requires.work.3)
-
-pub conclude-requires-clause-may : goal.conclude-requires-clause-may
-conclude-requires-clause-may g c κs within = λ fine. written_may c.args.item c.requires.work.1 (g.B.Node.state c.args.node) c.args.outcome c.requires.work.5
-
-pub conclude-requires-clause-leaving : goal.conclude-requires-clause-leaving
-conclude-requires-clause-leaving g c κs within =
-    leaving_kept c.make_room.new.state c.finish.new.state c.requires.work.0 c.args.item.to (length c.args.outcome.leaves) (c.make_room.ensures.stands c.requires.work.0 c.requires.work.2) c.requires.work.4
-    (c.finish.ensures.told ∙ c.bring_home.ensures.told) (c.finish.ensures.ports ∙ c.bring_home.ensures.ports)
-    (let few = c.make_room.ensures.few in omega arith) c.in-Ok-make_room.ensures.told c.in-Ok-make_room.ensures.port
-
-pub conclude-requires-clause-room : goal.conclude-requires-clause-room
-conclude-requires-clause-room g c κs within = λ n lt.
-    let f = λ (node : NodeRecord). with_kept (g.B.Node.state c.args.node).kept node in
-    let here : wants (node_in c.finish.new.state.graph.nodes c.args.item.to) c.args.outcome.sends n ≡ wants (node_in c.args.state.now.graph.nodes c.args.item.to) c.args.outcome.sends n =
-    ap (λ (t : Topology). wants (node_in t.nodes c.args.item.to) c.args.outcome.sends n) (c.finish.ensures.graph ∙ c.bring_home.ensures.graph)
-    ∙ ap (λ (t : Topology). wants (node_in (change_node t c.args.item.to f).nodes c.args.item.to) c.args.outcome.sends n) c.make_room.ensures.graph
-    ∙ wants_changed c.args.state.now.graph.nodes c.args.item.to f c.args.outcome.sends n (λ r. refl) in
-    let spares : spare_at c.finish.new.state.pending.queues.spares n ≡ spare_at c.make_room.new.state.pending.queues.spares n = ap (λ (l : List ℕ). spare_at l n) c.finish.ensures.spares ∙ ap (λ (p : Pending). spare_at p.queues.spares n) c.bring_home.ensures.pending in
-    let lists : length c.finish.new.state.pending.queues.lists ≡ length c.make_room.new.state.pending.queues.lists = c.finish.ensures.lists ∙ ap (λ (p : Pending). length p.queues.lists) c.bring_home.ensures.pending in
-    let room : needs (node_in c.args.state.now.graph.nodes c.args.item.to) (target_by c.args.item.to c.args.item.body c.args.outcome.learn c.args.outcome.answer) c.args.outcome.sends n ≤ spare_at c.make_room.new.state.pending.queues.spares n =
-    subst (λ (o : Option NodeId). needs (node_in c.args.state.now.graph.nodes c.args.item.to) o c.args.outcome.sends n ≤ spare_at c.make_room.new.state.pending.queues.spares n) c.target.ensures (c.in-Ok-make_room.ensures.room n (omega arith)) in
-    omega arith
-
-pub conclude-requires-clause-numbers : goal.conclude-requires-clause-numbers
-conclude-requires-clause-numbers g c κs within =
-    let few = c.make_room.ensures.few in
-    c.finish.ensures.numbers (length c.args.outcome.leaves + (length c.args.outcome.sends + 2))
-    (subst (λ (p : Pending). HasNumbers (length c.args.outcome.leaves + (length c.args.outcome.sends + 2) + 1) p.tally) (sym c.bring_home.ensures.pending)
-    (subst (λ (t : Tally). HasNumbers (length c.args.outcome.leaves + (length c.args.outcome.sends + 2) + 1) t) (sym c.make_room.ensures.tally)
-    (fewer_numbers (length c.args.outcome.leaves + (length c.args.outcome.sends + 2) + 1) (2 ^ 62) c.args.state.now.pending.tally (omega arith) (has_numbers c.args.state.now c.requires.work.0 c.requires.work.2 c.requires.work.4))))
-
-pub returns-clause-applied : goal.returns-clause-applied
-returns-clause-applied g c = λ a was S at L W.
-    let after = (goal.at.returns-clause-applied g c).After-finish in
-    subst (λ (b : RunState). Stands c.conclude.new.state b) (sym (written_applied a c.args.item was (g.B.Node.state c.args.node) c.args.outcome at W))
-    (c.conclude.ensures (done_from (home_run a c.args.item was (g.B.Node.state c.args.node).kept) c.args.item) (stands_finished g after a was S at))
+pub returns-in-Ok-clause-applied : goal.returns-in-Ok-clause-applied
+returns-in-Ok-clause-applied g c = λ a was S at L W.
+    let applied = subst (λ (x : Item). (a : RunState) (was : NodeRecord) → Stands c.args.state.now a → IsAtNode a x was → IsLow a.world → IsWrittenAt x was (g.B.Node.state c.args.node) c.args.outcome → Stands c.apply_write_item.new.state (applied_from a x))
+    c.deref.ensures c.in-Ok.ensures.applied in
+    subst (λ (s : State g.row.B.Denot). Stands s (applied_from a c.args.item)) (sym c.reuse.ensures) (applied a was S at L W)

@@ -21,6 +21,7 @@ invariant_of-self c =
       room = grind (arith, common_steps);
       purge_empty = K.purge_empty;
       purge_room = grind (arith, common_steps);
+      slots = K.slots;
     }
 
 pub returns-clause-takeable : goal.returns-clause-takeable

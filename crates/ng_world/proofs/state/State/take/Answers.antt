@@ -7,7 +7,7 @@ use Rattle.ng_machine.specs.World.{NodeRecord, node_at, node_in, state_of}
 use Rattle.ng_machine.specs.Run.{RunState}
 use Rattle.ng_queue.specs.Queue.{head}
 use Rattle.ng_queue.specs.Queues.{list_at}
-use Rattle.ng_topology.specs.Topology.{Topology, is_home}
+use Rattle.ng_topology.specs.Topology.{IsAtHome, Topology, is_home}
 use Rattle.ng_world.specs.declared.handed.Tool.{Tool}
 use Rattle.ng_world.specs.declared.handed.Tool.TheVariants.{Node}
 use Rattle.ng_machine.specs.Desk.{Writes, job_of, job_at}
@@ -50,8 +50,9 @@ pub lend-node-requires-after_bounds : goal.lend-node-requires-after_bounds
 lend-node-requires-after_bounds g c κs within =
     let at = (goal.at.lend-node-requires-after_bounds g c).After-take_at-item in
     let N = place g at c.requires.standing.0 c.requires.standing.1 in
-    ap (λ (t : Topology). is_home t c.take_at-item.result.to) c.take_at-item.ensures.graph
-    ∙ least_home c.args.self.now c.requires.standing.0 c.take_at-item.result N.node c.requires.standing.1 (c.take_at-item.ensures.next c.requires.standing.0 c.requires.standing.1).0.may N.here
+    subst (λ (x : Item). IsAtHome c.take_at-item.new.self.graph x.to) (sym c.deref.ensures)
+    (ap (λ (t : Topology). is_home t c.take_at-item.result.to) c.take_at-item.ensures.graph
+    ∙ least_home c.args.self.now c.requires.standing.0 c.take_at-item.result N.node c.requires.standing.1 (c.take_at-item.ensures.next c.requires.standing.0 c.requires.standing.1).0.may N.here)
 
 pub returns-in-Plan-clause-work : goal.returns-in-Plan-clause-work
 returns-in-Plan-clause-work g c = λ a S.
@@ -62,10 +63,16 @@ pub returns-in-Node-clause-work : goal.returns-in-Node-clause-work
 returns-in-Node-clause-work g c = λ a S.
     let at = (goal.at.returns-in-Node-clause-work g c).After-take_at-item in
     let N = place g at a S in
-    ap (Writes c.take_at-item.result) (c.lend-node.ensures.node N.node (ap (λ (t : Topology). node_in t.nodes c.take_at-item.result.to) c.take_at-item.ensures.graph ∙ N.here))
+    let here : node_in c.take_at-item.new.self.graph.nodes c.deref.result.now.to ≡ Some N.node = subst (λ (x : Item). node_in c.take_at-item.new.self.graph.nodes x.to ≡ Some N.node) (sym c.deref.ensures)
+    (ap (λ (t : Topology). node_in t.nodes c.take_at-item.result.to) c.take_at-item.ensures.graph ∙ N.here) in
+    ap (Writes c.take_at-item.result) (c.lend-node.ensures.node N.node here)
     ∙ sym (job g at a S ∙ ap (λ (t : Tool). job_by t c.take_at-item.result N.node) c.in-Node.is)
 
 pub returns-in-Node-clause-after : goal.returns-in-Node-clause-after
 returns-in-Node-clause-after g c = λ a S.
     let at = (goal.at.returns-in-Node-clause-after g c).After-take_at-item in
-    c.lend-node.ensures.stands (with_taken a c.take_at-item.result.id.0 c.args.seat) (place g at a S).node (c.take_at-item.ensures.after a S) (place g at a S).node_is (out_now g at a S c.in-Node.is)
+    let N = place g at a S in
+    let here : node_at a.world c.deref.result.now.to ≡ Some N.node = subst (λ (x : Item). node_at a.world x.to ≡ Some N.node) (sym c.deref.ensures) N.node_is in
+    let out : WriterOut N.node a.world.pending (with_taken a c.take_at-item.result.id.0 c.args.seat).taken c.deref.result.now.to.0 =
+    subst (λ (x : Item). WriterOut N.node a.world.pending (with_taken a c.take_at-item.result.id.0 c.args.seat).taken x.to.0) (sym c.deref.ensures) (out_now g at a S c.in-Node.is) in
+    c.lend-node.ensures.stands (with_taken a c.take_at-item.result.id.0 c.args.seat) N.node (c.take_at-item.ensures.after a S) here out
