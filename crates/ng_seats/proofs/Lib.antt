@@ -1,3 +1,4 @@
+pub mod Reached
 pub mod OpenStories
 pub mod Working
 pub mod HandedIn

@@ -6,9 +6,9 @@ use Rattle.ng_story.specs.SoundStory.{IsSoundStory}
 use Rattle.ng_story.specs.Story.{run_state_of, world_of}
 use Rattle.ng_world.specs.Stands.{Stands}
 use Rattle.ng_seats.specs.CoreStory.{CoreStory, setting_of, story}
-use Rattle.ng_seats.specs.declared.machine.Core.TheInside.{Inside}
+use Rattle.ng_seats.specs.declared.machine.Parts.{Parts}
 
-abbrev pub story_in : {B : Type 0} → Inside B → CoreStory
+abbrev pub story_in : {B : Type 0} → Parts B → CoreStory
 story_in c = record {
   own = c.own;
   ports = c.ports.items;
@@ -21,7 +21,7 @@ story_in c = record {
   closed = c.closed;
 }
 
-pub record IsKept {B : Type 0} (c : Inside B) : Type 0 where
+pub record IsKept {B : Type 0} (c : Parts B) : Type 0 where
   pub sound : IsSoundStory (story (story_in c))
   pub modest : IsModest (setting_of (story_in c))
   pub low : IsLow (world_of (story (story_in c)))

@@ -33,12 +33,12 @@ impl<B: Node> Core<B> {
         ensures others { Others seat (story self.old) (story self.new) }
     {
         let id = done.id();
-        match apply(alloc, &mut self.state, done) {
-            Ok(out) => {
-                self.journal.push_reserved(Event::Apply { id });
-                Ok(out)
-            }
-            Err(done) => Err(done),
-        }
+        let parts = &mut *self.parts;
+        let out = match apply(alloc, &mut parts.state, done) {
+            Ok(out) => out,
+            Err(done) => return Err(done),
+        };
+        parts.journal.push_reserved(Event::Apply { id });
+        Ok(out)
     }
 }

@@ -24,14 +24,14 @@ impl<B: Node> Core<B> {
     pub fn ended(&self) -> bool
         ensures { result ≡ has_ended (story self.now) }
     {
-        self.closed.is_some() || is_marked(&self.gave_up)
+        self.parts.closed.is_some() || is_marked(&self.parts.gave_up)
     }
 
     /// Whether a seat gave up.
     pub fn failed(&self) -> bool
         ensures { result ≡ has_failed (story self.now) }
     {
-        is_marked(&self.gave_up)
+        is_marked(&self.parts.gave_up)
     }
 
     /// The seat gives up, since memory ran out: the core has ended. It takes no memory.
@@ -41,7 +41,7 @@ impl<B: Node> Core<B> {
         ensures own { story_desk (story self.new) seat ≡ record (story_desk (story self.old) seat) { gave_up = true } }
         ensures others { Others seat (story self.old) (story self.new) }
     {
-        self.gave_up[seat as usize] = true;
+        self.parts.gave_up[seat as usize] = true;
     }
 
     /// Ends the core, as the seat 0, where so many inputs are unfed: by a Stop, which drops what is pending, where the limit of
@@ -58,14 +58,15 @@ impl<B: Node> Core<B> {
         ensures err { OnErr result (self.new ≡ self.old) }
         ensures others { Others 0 (story self.old) (story self.new) }
     {
-        let spent = self.state.pending.tally.applies == self.budget;
-        let pending = self.state.pending.tally.pending;
+        let parts = &mut *self.parts;
+        let spent = parts.state.pending.tally.applies == parts.budget;
+        let pending = parts.state.pending.tally.pending;
         if let Some(why) = refusal_to_close(spent, pending, unfed) {
             return Err(why);
         }
         let stops = stops(spent, pending, unfed);
-        stop_if(stops, &mut self.state, &mut self.journal);
-        self.closed = Some(unfed);
+        stop_if(stops, &mut parts.state, &mut parts.journal);
+        parts.closed = Some(unfed);
         Ok(())
     }
 }

@@ -51,7 +51,8 @@ impl<B: Node> Core<B> {
     pub fn expect(&mut self, inputs: usize)
         ensures { self.new ≡ self.old }
     {
-        make_room_ahead(&mut self.inputs, &mut self.journal, inputs);
+        let parts = &mut *self.parts;
+        make_room_ahead(&mut parts.inputs, &mut parts.journal, inputs);
     }
 
     /// Feeds an input, as the seat 0.
@@ -71,17 +72,22 @@ impl<B: Node> Core<B> {
         ensures err { OnErr result (self.new ≡ self.old) }
         ensures others { Others 0 (story self.old) (story self.new) }
     {
-        if let Some(why) = self.state.pending.refusal(self.budget, &input) {
+        let parts = &mut *self.parts;
+        if let Some(why) = parts.state.pending.refusal(parts.budget, &input) {
             return Err((FeedFault::Not(why), input));
         }
-        let Ok(()) = make_room(&mut self.inputs, &mut self.journal, self.state.pending.out) else {
+        let Ok(()) = make_room(
+            &mut parts.inputs,
+            &mut parts.journal,
+            parts.state.pending.out,
+        ) else {
             return Err((FeedFault::NoMemory, input));
         };
-        let Ok(()) = feed_input(alloc, &mut self.state, &input) else {
+        let Ok(()) = feed_input(alloc, &mut parts.state, &input) else {
             return Err((FeedFault::NoMemory, input));
         };
-        self.inputs.push_reserved(input);
-        self.journal.push_reserved(Event::Feed);
+        parts.inputs.push_reserved(input);
+        parts.journal.push_reserved(Event::Feed);
         Ok(())
     }
 }

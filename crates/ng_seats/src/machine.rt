@@ -10,12 +10,9 @@ use ng_turn::Desked;
 use ng_world::State;
 use std::marker::Model;
 
-/// The core. A contract sees its story: what it began with and was fed, its journal, who gave up, and how it was closed.
-///
-/// Its type keeps that the journal is orderly over every list of inputs that begins with those fed, and that the world, as it
-/// is kept, is that of the journal's run.
+/// What a core is made of.
 #[derive(Drop)]
-pub struct Core<B: Node> {
+pub(crate) struct Parts<B: Node> {
     pub(crate) own: Name,
     pub(crate) ports: Vec<Name>,
     pub(crate) stock: Vec<Kind>,
@@ -28,15 +25,24 @@ pub struct Core<B: Node> {
     pub(crate) state: State<B>,
 }
 
+/// The core. A contract sees its story: what it began with and was fed, its journal, who gave up, and how it was closed.
+///
+/// Its type keeps that the journal is orderly over every list of inputs that begins with those fed, and that the world, as it
+/// is kept, is that of the journal's run. It stands in a place of its own, so that who hands it on moves a pointer.
+#[derive(Drop)]
+pub struct Core<B: Node> {
+    pub(crate) parts: Box<Parts<B>>,
+}
+
 impl<B: Node> Model for Core<B> {
     ghost use Rattle.ng_seats.specs.CoreStory.{CoreStory};
     ghost use Rattle.ng_seats.specs.Kept.{story_in, IsKept};
 
     ghost Value = { CoreStory };
 
-    ghost view = { story_in };
+    ghost view = { λ c. story_in c.parts.value };
 
-    ghost invariant = { IsKept };
+    ghost invariant = { λ c. IsKept c.parts.value };
 }
 
 /// A desk is what only its seat's holding of the core may change.

@@ -8,6 +8,7 @@ ghost use Rattle.ng_world.specs.Stands.{port_of};
 ghost use Rattle.ng_machine.specs.World.{blank_port};
 
 use crate::Core;
+use crate::machine::Parts;
 use ng_base::{Kind, Name, NoMemory};
 use ng_events::Journal;
 use ng_node::Node;
@@ -101,7 +102,7 @@ impl<B: Node> Core<B> {
             told: Vec::new(alloc),
             ports: kept,
         };
-        Ok(Core {
+        let parts = Parts {
             own,
             ports,
             stock: kinds,
@@ -112,6 +113,9 @@ impl<B: Node> Core<B> {
             gave_up,
             closed: None,
             state,
+        };
+        Ok(Core {
+            parts: Box::new(alloc, parts)?,
         })
     }
 }

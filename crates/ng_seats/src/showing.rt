@@ -30,28 +30,29 @@ impl<B: Node> Core<B> {
         ensures modest { IsModest (setting_of self.now) }
         ensures seats { 0 < self.now.seats }
     {
-        &self.journal
+        &self.parts.journal
     }
 
     /// The journal, taken out.
     pub fn into_journal(self) -> Journal
         ensures { result.items ≡ self.journal }
     {
-        self.journal
+        let parts = Box::into_inner(self.parts);
+        parts.journal
     }
 
     /// How many inputs were fed.
     pub fn fed(&self) -> u64
         ensures { result ≡ (world_of (story self.now)).fed }
     {
-        self.state.pending.tally.fed
+        self.parts.state.pending.tally.fed
     }
 
     /// What was told, in order.
     pub fn told(&self) -> &[Told]
         ensures { result.now ≡ (world_of (story self.now)).told }
     {
-        &self.state.told
+        &self.parts.state.told
     }
 
     /// The packets that left by the wire of a port, in order, with their times.
@@ -59,7 +60,7 @@ impl<B: Node> Core<B> {
         requires { port < length self.now.ports }
         ensures { result.now ≡ (port_at (world_of (story self.now)) port).leaving }
     {
-        &self.state.ports[port as usize].leaving
+        &self.parts.state.ports[port as usize].leaving
     }
 
     /// The counts of a port.
@@ -67,7 +68,7 @@ impl<B: Node> Core<B> {
         requires { port < length self.now.ports }
         ensures { result ≡ port_totals_of (port_at (world_of (story self.now)) port) }
     {
-        let port = &self.state.ports[port as usize];
+        let port = &self.parts.state.ports[port as usize];
         PortTotals {
             fed: port.fed,
             left: port.leaving.len() as u64,
@@ -79,8 +80,9 @@ impl<B: Node> Core<B> {
     pub fn totals(&self) -> Totals
         ensures { result ≡ totals_of (world_of (story self.now)) }
     {
-        let tally = &self.state.pending.tally;
-        let end = self.state.pending.queues.len().min(MAX_NODES) as u32;
+        let state = &self.parts.state;
+        let tally = &state.pending.tally;
+        let end = state.pending.queues.len().min(MAX_NODES) as u32;
         Totals {
             applied: tally.done,
             refused: tally.refused,
@@ -91,8 +93,8 @@ impl<B: Node> Core<B> {
             peer_gone: tally.lost.node_gone,
             full: tally.lost.full,
             spool: tally.lost.spool,
-            nodes: count_nodes(&self.state.graph, end),
-            hooks: count_hooks(&self.state.graph, end),
+            nodes: count_nodes(&state.graph, end),
+            hooks: count_hooks(&state.graph, end),
         }
     }
 }

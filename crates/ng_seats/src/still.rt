@@ -129,13 +129,14 @@ impl<B: Node> Core<B> {
     pub fn still(&self, alloc: Global) -> Result<Still<'_, B>, NoMemory>
         ensures { IfOk result (λ still. still ≡ still_world (world_of (story self.now))) }
     {
-        let graph = &self.state.graph;
-        let end = self.state.pending.queues.len().min(MAX_NODES) as u32;
+        let state = &self.parts.state;
+        let graph = &state.graph;
+        let end = state.pending.queues.len().min(MAX_NODES) as u32;
         let plans = plans_of(alloc, graph, end)?;
         Ok(Still {
             graph,
             plans,
-            ports: self.state.ports.len() as u32,
+            ports: state.ports.len() as u32,
         })
     }
 }

@@ -36,8 +36,9 @@ impl<B: Node> Core<B> {
     fn is_spent(&self) -> bool
         ensures { result ≡ nat_le self.now.budget ((world_of (story self.now)).applies + length (run_state_of (story self.now)).taken) }
     {
-        self.state.pending.tally.applies >= self.budget
-            || self.state.pending.out >= self.budget - self.state.pending.tally.applies
+        let parts = &*self.parts;
+        let pending = &parts.state.pending;
+        pending.tally.applies >= parts.budget || pending.out >= parts.budget - pending.tally.applies
     }
 
     /// Takes, for a seat that has nothing, the item of the least number that may be taken.
@@ -60,11 +61,12 @@ impl<B: Node> Core<B> {
         if self.ended() || self.is_spent() {
             return Ok(None);
         }
-        self.journal.reserve(self.state.pending.out as usize + 3)?;
-        let Some(work) = self.state.take(seat)? else {
+        let parts = &mut *self.parts;
+        parts.journal.reserve(parts.state.pending.out as usize + 3)?;
+        let Some(work) = parts.state.take(seat)? else {
             return Ok(None);
         };
-        self.journal.push_reserved(Event::Take {
+        parts.journal.push_reserved(Event::Take {
             id: work.id(),
             seat,
         });
@@ -80,7 +82,8 @@ impl<B: Node> Core<B> {
         ensures others { Others seat (story self.old) (story self.new) }
     {
         let id = work.id();
-        put_back(&mut self.state, work);
-        self.journal.push_reserved(Event::Back { id });
+        let parts = &mut *self.parts;
+        put_back(&mut parts.state, work);
+        parts.journal.push_reserved(Event::Back { id });
     }
 }

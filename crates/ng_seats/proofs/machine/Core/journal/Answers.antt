@@ -6,4 +6,4 @@ use Rattle.ng_seats.proofs.Laws.{is_lawful}
 use Rattle.ng_seats.proofs.machine.Core.journal.Goals as goal
 
 pub returns-clause-laws : goal.returns-clause-laws
-returns-clause-laws g c = subst (λ (x : CoreStory). IsLawful (story x)) c.self.view_is (is_lawful (story (story_in c.self.inside)) c.self.invariant.sound)
+returns-clause-laws g c = subst (λ (x : CoreStory). IsLawful (story x)) c.self.view_is (is_lawful (story (story_in c.self.inside.parts.value)) c.self.invariant.sound)

@@ -6,17 +6,18 @@ use Rattle.ng_story.specs.Story.{world_of}
 use Rattle.ng_seats.specs.CoreStory.{CoreStory, story}
 use Rattle.ng_seats.specs.Kept.{story_in}
 use Rattle.ng_seats.proofs.KeptPorts.{kept_count, kept_port}
+use Rattle.ng_seats.proofs.Reached.{kept_there, story_there}
 use Rattle.ng_seats.proofs.machine.Core.leaving.Goals as goal
 
 pub index-requires : goal.index-requires
 index-requires g c =
-    let lt : c.args.port < length c.self.inside.ports.items = subst (λ (x : CoreStory). c.args.port < length x.ports) (sym c.self.view_is) c.requires in
-    let count = kept_count c.self.inside.state (story (story_in c.self.inside)) c.self.invariant.stands in
+    let lt : c.args.port < length c.deref.result.now.ports.items = subst (λ (x : CoreStory). c.args.port < length x.ports) (sym (story_there c.deref.ensures c.self.view_is)) c.requires in
+    let count = kept_count c.deref.result.now.state (story (story_in c.deref.result.now)) (kept_there c.deref.ensures c.self.invariant).stands in
     grind (arith, common_steps)
 
 pub returns : goal.returns
 returns g c =
-    let lt : c.args.port < length c.self.inside.ports.items = subst (λ (x : CoreStory). c.args.port < length x.ports) (sym c.self.view_is) c.requires in
-    c.deref.ensures.value
-    ∙ ap (λ (p : Port). p.leaving) (kept_port c.self.inside.state (story (story_in c.self.inside)) c.args.port c.index.result.now c.self.invariant.stands lt c.index.ensures)
-    ∙ ap (λ (x : CoreStory). (port_at (world_of (story x)) c.args.port).leaving) c.self.view_is
+    let lt : c.args.port < length c.deref.result.now.ports.items = subst (λ (x : CoreStory). c.args.port < length x.ports) (sym (story_there c.deref.ensures c.self.view_is)) c.requires in
+    c.deref-2.ensures.value
+    ∙ ap (λ (p : Port). p.leaving) (kept_port c.deref.result.now.state (story (story_in c.deref.result.now)) c.args.port c.index.result.now (kept_there c.deref.ensures c.self.invariant).stands lt c.index.ensures)
+    ∙ ap (λ (x : CoreStory). (port_at (world_of (story x)) c.args.port).leaving) (story_there c.deref.ensures c.self.view_is)

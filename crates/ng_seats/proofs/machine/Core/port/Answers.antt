@@ -8,18 +8,19 @@ use Rattle.ng_story.specs.Story.{world_of}
 use Rattle.ng_seats.specs.CoreStory.{CoreStory, story}
 use Rattle.ng_seats.specs.Kept.{story_in}
 use Rattle.ng_seats.proofs.KeptPorts.{kept_count, kept_port}
+use Rattle.ng_seats.proofs.Reached.{kept_there, story_there}
 use Rattle.ng_seats.proofs.machine.Core.port.Goals as goal
 
 pub index-port-requires : goal.index-port-requires
 index-port-requires g c =
-    let lt : c.args.port < length c.self.inside.ports.items = subst (λ (x : CoreStory). c.args.port < length x.ports) (sym c.self.view_is) c.requires in
-    let count = kept_count c.self.inside.state (story (story_in c.self.inside)) c.self.invariant.stands in
+    let lt : c.args.port < length c.deref.result.now.ports.items = subst (λ (x : CoreStory). c.args.port < length x.ports) (sym (story_there c.deref.ensures c.self.view_is)) c.requires in
+    let count = kept_count c.deref.result.now.state (story (story_in c.deref.result.now)) (kept_there c.deref.ensures c.self.invariant).stands in
     grind (arith, common_steps)
 
 pub returns : goal.returns
 returns g c =
     let count : vec_len c.index-port.result.now.leaving ≡ length c.index-port.result.now.leaving.items = grind (arith, common_steps) in
-    let lt : c.args.port < length c.self.inside.ports.items = subst (λ (x : CoreStory). c.args.port < length x.ports) (sym c.self.view_is) c.requires in
+    let lt : c.args.port < length c.deref.result.now.ports.items = subst (λ (x : CoreStory). c.args.port < length x.ports) (sym (story_there c.deref.ensures c.self.view_is)) c.requires in
     ap (λ (n : ℕ). let t : PortTotals = record { fed = c.index-port.result.now.fed; left = n; up = c.index-port.result.now.up } in t) (c.len.ensures ∙ count)
-    ∙ ap port_totals_of (kept_port c.self.inside.state (story (story_in c.self.inside)) c.args.port c.index-port.result.now c.self.invariant.stands lt c.index-port.ensures)
-    ∙ ap (λ (x : CoreStory). port_totals_of (port_at (world_of (story x)) c.args.port)) c.self.view_is
+    ∙ ap port_totals_of (kept_port c.deref.result.now.state (story (story_in c.deref.result.now)) c.args.port c.index-port.result.now (kept_there c.deref.ensures c.self.invariant).stands lt c.index-port.ensures)
+    ∙ ap (λ (x : CoreStory). port_totals_of (port_at (world_of (story x)) c.args.port)) (story_there c.deref.ensures c.self.view_is)
