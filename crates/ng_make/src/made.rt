@@ -71,8 +71,8 @@ fn packet(alloc: Global, n: u32, k: u32) -> Result<Packet, NoMemory>
     let head = [
         2, 0, 0, 0, 0, 1, 2, 0, 0, 0, 0, 2, 0x81, 0, 0, vlan, 8, 0, byte,
     ];
-    let mut bytes = Vec::from_slice(alloc, &head)?;
-    bytes.extend_from_slice(&[0u8; 45])?;
+    let mut bytes = [0u8; 64];
+    bytes[..19].copy_from_slice(&head);
     Packet::new(alloc, &bytes)
 }
 
