@@ -1,6 +1,5 @@
 -- What is known of a taken item at its node.
-use Rattle.std.proofs.Common.{◌≡◌, ◌∙◌, inr, ℕ, Bool, true, false, not, List, refl, sym, ap, subst, true≢false}
-use Rattle.std.proofs.lemmas.Bool.{not-true}
+use Rattle.std.proofs.Common.{◌≡◌, ◌∙◌, inr, ℕ, Bool, true, false, not, List, refl, sym, ap, true≢false}
 use Rattle.std.specs.Prelude.{◌&&◌, ◌==◌, Option, Some, None, Result, Ok, Err}
 use Rattle.ng_base.specs.declared.errno.Errno.{Errno}
 use Rattle.ng_base.specs.declared.ids.LinkId.{LinkId}
@@ -11,18 +10,16 @@ use Rattle.ng_message.specs.declared.message.Msg.{Msg as Message}
 use Rattle.ng_message.specs.Numbers.{generic_cookie, is_reader_number}
 use Rattle.ng_machine.specs.declared.body.Body.{Body}
 use Rattle.ng_machine.specs.declared.body.Body.TheVariants.{Frame, Msg, Join2, Join3, Undo, Leave, Rebind, Tick, Learn}
-use Rattle.ng_machine.specs.declared.hook.Hook.{Hook}
 use Rattle.ng_machine.specs.declared.item.Item.{Item}
 use Rattle.ng_machine.specs.declared.outcome.Outcome.{Outcome}
 use Rattle.ng_machine.specs.declared.plan.Plan.{Plan}
 use Rattle.ng_machine.specs.Body.{is_writer}
-use Rattle.ng_machine.specs.Desk.{Job, Within, Reads, Writes, body_job, is_of_kind, job_at, job_unless_gone, writes_if}
+use Rattle.ng_machine.specs.Desk.{Within, Reads, Writes, body_job, is_of_kind, job_at, job_unless_gone, writes_if}
 use Rattle.ng_machine.specs.Effect.{MessageClass, AnAnswer, AnOrder, OfKind, Foreign, class_by, class_of, is_answer, is_hook_gone}
 use Rattle.ng_machine.specs.Order.{Order, Question, as_order, read_by_mode, read_order, read_question}
 use Rattle.ng_machine.specs.Run.{RunState}
 use Rattle.ng_machine.specs.State.{State as NodeState}
 use Rattle.ng_machine.specs.World.{NodeRecord, kind_at, node_at, node_in, state_of}
-use Rattle.ng_orders.specs.Asked.{message_of}
 use Rattle.ng_orders.specs.Classes.{obeys}
 use Rattle.ng_orders.specs.Inside.{IsInside, is_left, is_left_message, removes_as_read}
 use Rattle.ng_orders.specs.Steps.{IsStep}
@@ -33,7 +30,7 @@ use Rattle.ng_service.specs.Work.{IsOwnAt, IsReadAt, IsWrittenAt}
 use Rattle.ng_step.specs.Applied.{ComesOut, IsAtNode, applied_from}
 use Rattle.ng_step.specs.Boxes.{LeavesBox}
 use Rattle.ng_step.proofs.Homes.{box_is_home}
-use Rattle.ng_story.specs.Work.{Evaluated, IsDone, IsEvaluated, IsWritten, Written, removed_state}
+use Rattle.ng_story.specs.Work.{Evaluated, IsDone, IsEvaluated, Written, removed_state}
 use Rattle.ng_topology.specs.Topology.{is_home}
 use Rattle.ng_world.specs.declared.state.State.{State}
 use Rattle.ng_world.specs.Stands.{MayLeave}

@@ -1,5 +1,5 @@
 -- A node goes by an order or by a peer's going alone: by all else that is applied it stays.
-use Rattle.std.proofs.Common.{◌≡◌, ◌∙◌, ℕ, ◌+◌, ◌<◌, List, [], ◌∷◌, ◌++◌, length, Bool, true, false, refl, sym, ap, subst, true≢false}
+use Rattle.std.proofs.Common.{◌≡◌, ◌∙◌, ℕ, List, [], ◌∷◌, ◌++◌, Bool, true, false, refl, ap, true≢false}
 use Rattle.std.proofs.lemmas.List.{get_or_append_left}
 use Rattle.std.specs.Prelude.{Result, Ok, Err}
 use Rattle.std.specs.declared.option.Option.{Option}
@@ -23,7 +23,7 @@ use Rattle.ng_machine.specs.declared.outcome.Outcome.{Outcome}
 use Rattle.ng_machine.specs.Case.{outcome_of}
 use Rattle.ng_machine.specs.Change.{Change, Sets, Makes, Retires, Accepts, Posts, Notes, change, change_all, set_node}
 use Rattle.ng_machine.specs.Connect.{connect, connect_to, hook_refusal, join, rebind, settle, undo, unless}
-use Rattle.ng_machine.specs.Effect.{MessageClass, AnAnswer, AnOrder, OfKind, Foreign, answered, becomes, class_of, counts_unless, door_name, effect_at, exits, is_fine, is_hook_gone, learn, learns, message_by, posts, reply_changes_if, serve, told_answer}
+use Rattle.ng_machine.specs.Effect.{MessageClass, AnAnswer, AnOrder, OfKind, Foreign, answered, class_of, counts_unless, door_name, effect_at, exits, is_fine, is_hook_gone, learn, learns, message_by, posts, reply_changes_if, serve, told_answer}
 use Rattle.ng_machine.specs.Generic.{carry_out, mkpeer, mkpeer_refusal, ordered_by, rename_refusal}
 use Rattle.ng_machine.specs.Order.{Order, Shutdown, Mkpeer, Connect, Rename, Rmhook, Asks, read_order}
 use Rattle.ng_machine.specs.Retire.{refuse}

@@ -6,4 +6,5 @@ mod inside;
 mod outcome;
 mod removing;
 
+pub use ng_service::{evaluate, serve};
 pub use outcome::apply;

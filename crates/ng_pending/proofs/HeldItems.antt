@@ -1,7 +1,8 @@
 -- What is held after each call.
 use Rattle.std.proofs.Common.{◌≡◌, ◌⊎◌, inl, inr, ℕ, zero, suc, ◌+◌, ◌<◌, ◌≤◌, List, [], ◌∷◌, ◌++◌, length, map, set, replicate, Bool, true, false, not, cond, refl, sym, ap, ◌∙◌, subst, ⊎_elim, arith, true≢false, length-append, length-set}
 use Rattle.std.proofs.lemmas.Bool.{eq-eqb, eqb-true, eqb-false}
-use Rattle.std.specs.Prelude.{◌==◌, filter, nat_lt, nat_le}
+use Rattle.std.proofs.lemmas.List.{get_or-set_same, set-set}
+use Rattle.std.specs.Prelude.{◌==◌, ◌||◌, filter, nat_lt, nat_le}
 use Rattle.std.specs.declared.option.Option.{Option}
 use Rattle.std.specs.declared.option.Option.TheVariants.{Some}
 use Rattle.ng_base.specs.declared.cause.Cause.TheVariants.{Spool}
@@ -27,7 +28,7 @@ use Rattle.ng_story.specs.Story.{IsNext}
 use Rattle.ng_machine.specs.Orderly.{MayTake}
 use Rattle.ng_tie.specs.Tie.{is_out, taking, untaken, at, elsewhere, entries, Tied}
 use Rattle.ng_tie.proofs.SortedItems.{sorted_push, sorted_filter, sorted_one}
-use Rattle.ng_tie.proofs.OfQueues.{at_node, tied_push, tied_take, tied_give, tied_done, tied_purge}
+use Rattle.ng_tie.proofs.OfQueues.{at_node, taken_push, tied_push, tied_take, tied_give, tied_done, tied_purge}
 use Rattle.ng_tie.proofs.Heads.{least_is_next, out_taken, all_wait, waiting_all}
 use Rattle.ng_tie.proofs.OnceTaken.{once_push, once_untaken, untaken_out, untaken_length}
 use Rattle.ng_tally.specs.declared.tally.Tally.{Tally}
@@ -167,6 +168,40 @@ pub dropped_held : (p q : Pending) (a : RunState) (item : Item) → HoldsItems p
 dropped_held p q a item H o lists tally out =
     left_held p q a item (drop_hook_gone (take_out a.world item.id) item.id) H o refl refl lists
     (tally ∙ ap (λ (t : Tally). without_hook t item) H.tally ∙ sym (counts_are_of_world.hook_gone a.world item H.sorted o.0)) out
+
+-- TAKEN AND DONE AT ONCE
+
+-- the entries that are left are the same, whether the item was taken before or not
+others_taken : (id : ItemId) (es : List Entry) → filter (is_other id) (map (take_entry id) es) ≡ filter (is_other id) es
+others_taken id [] = refl
+others_taken id (Out m ∷ es) = ap (λ (l : List Entry). cond (is_other id (Out m)) (Out m ∷ l) l) (others_taken id es)
+others_taken id (Waiting x ∷ es) = by (x.id.0 == id.0) refl (others_taken id es)
+  where
+    by : (b : Bool) → (x.id.0 == id.0) ≡ b → filter (is_other id) (map (take_entry id) es) ≡ filter (is_other id) es
+        → filter (is_other id) (cond b (Out (mark_of x)) (Waiting x) ∷ map (take_entry id) es) ≡ cond (not b) (Waiting x ∷ filter (is_other id) es) (filter (is_other id) es)
+    by true e more = ap (λ (c : Bool). cond (not c) (Out (mark_of x) ∷ filter (is_other id) (map (take_entry id) es)) (filter (is_other id) (map (take_entry id) es))) e ∙ more
+    by false e more =
+        ap (λ (c : Bool). cond (not c) (Waiting x ∷ filter (is_other id) (map (take_entry id) es)) (filter (is_other id) (map (take_entry id) es))) e
+        ∙ ap (λ (l : List Entry). Waiting x ∷ l) more
+
+pub out_next : (a : RunState) (item : Item) (seat : ℕ) → IsNext a item → is_out item.id.0 (with_taken a item.id.0 seat).taken ≡ true
+out_next a item seat N = taken_push item.id.0 item.id.0 seat a.taken ∙ ap (λ (b : Bool). b || (item.id.0 == item.id.0)) (untaken_out a item N.may) ∙ eq-eqb item.id.0 item.id.0 refl
+
+pub next_counts : (p : Pending) (a : RunState) (item : Item) → HoldsItems p a → IsNext a item → Counts p.tally item
+next_counts p a item H N = subst (λ (t : Tally). Counts t item) (sym H.tally) (counts_are_low.one a.world item H.sorted N.may.pending)
+
+pub served_held : (p q : Pending) (a : RunState) (item : Item) (seat : ℕ) → HoldsItems p a → IsNext a item
+    → q.queues.lists ≡ set p.queues.lists item.to.0 (filter (is_other item.id) (list_at p.queues.lists item.to.0)) → q.tally ≡ done_with p.tally item → q.out ≡ p.out
+    → HoldsItems q (done_from (with_taken a item.id.0 seat) item)
+served_held p q a item seat H N lists tally out =
+    let here = list_at p.queues.lists item.to.0 in
+    let taken = set p.queues.lists item.to.0 (map (take_entry item.id) here) in
+    let mid : Pending = record p { queues = record p.queues { lists = taken }; out = p.out + 1 } in
+    let same : set taken item.to.0 (filter (is_other item.id) (list_at taken item.to.0)) ≡ set p.queues.lists item.to.0 (filter (is_other item.id) here) =
+    ap (λ (l : List Entry). set taken item.to.0 (filter (is_other item.id) l)) (get_or-set_same p.queues.lists item.to.0 (map (take_entry item.id) here) [] (H.known item N.may.pending))
+    ∙ ap (λ (l : List Entry). set taken item.to.0 l) (others_taken item.id here)
+    ∙ set-set p.queues.lists item.to.0 (map (take_entry item.id) here) (filter (is_other item.id) here) in
+    done_held mid q (with_taken a item.id.0 seat) item (taken_held p mid a item seat H N refl refl refl) (N.may.pending, out_next a item seat N) (lists ∙ sym same) tally (omega arith)
 
 -- ACCEPTED
 

@@ -156,6 +156,23 @@ impl Pending {
         self.tally.finish(item);
     }
 
+    /// The item that `least` leads to is done at once: what `take` and then `finish` leave.
+    pub fn dequeue(&mut self, at: usize, _seat: u32) -> BoxedItem
+        requires least { IsLeast self.old.queues.lists at }
+        requires holds { IsHolding self.old }
+        requires numbers { HasNumbers 1 self.old.tally }
+        ensures head { head (list_at self.old.queues.lists at) ≡ Some result }
+        ensures next { (a : RunState) → HoldsItems self.old a → IsNext a result × (result.to.0 ≡ at) }
+        ensures holds { (a : RunState) → HoldsItems self.old a → HoldsItems self.new (done_from (with_taken a result.id.0 _seat) result) }
+        ensures spares { self.new.queues.spares ≡ self.old.queues.spares }
+        ensures lists { length self.new.queues.lists ≡ length self.old.queues.lists }
+        ensures numbers { (k : ℕ) → HasNumbers (k + 1) self.old.tally → HasNumbers k self.new.tally }
+    {
+        let item = self.queues.dequeue(at);
+        self.tally.finish(&item);
+        item
+    }
+
     /// A taken item is dropped, since its hook is gone.
     pub fn drop_for_hook(&mut self, item: &Item)
         requires out { (a : RunState) × HoldsItems self.old a × IsOutIn a item.now }

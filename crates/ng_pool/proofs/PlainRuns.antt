@@ -12,7 +12,7 @@ use Rattle.ng_machine.specs.Run.{RunState, after, after_all, beginning, stopped_
 use Rattle.ng_story.specs.SoundStory.{IsSoundStory}
 use Rattle.ng_story.specs.Story.{Story, begun, follow_if, run_state_of, with_more}
 use Rattle.ng_story.proofs.MoreInputs.{same_run}
-use Rattle.ng_pool.specs.Plainly.{PlainlyIsPlain, PlainlyIsWhole, WentPlainly, stretched}
+use Rattle.ng_pool.specs.Plainly.{PlainlyIsPlain, PlainlyIsWhole, stretched}
 
 follows : (b : Bool) (more : List Input) → follow_if b (Some (length more)) more
 follows true more = refl

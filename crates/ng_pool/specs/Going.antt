@@ -1,13 +1,13 @@
 -- A plain run on its way.
 use Rattle.std.specs.Prelude.{◌≡◌, ℕ, ◌+◌, ◌-◌, List, [], ◌++◌, length, None}
 use Rattle.ng_base.specs.declared.event.Event.{Event}
-use Rattle.ng_base.specs.declared.event.Event.TheVariants.{Take, Apply}
 use Rattle.ng_base.specs.declared.ids.ItemId.{ItemId}
 use Rattle.ng_machine.specs.declared.input.Input.{Input}
 use Rattle.ng_machine.specs.Plain.{PlainFrom}
 use Rattle.ng_pool.specs.Plainly.{stretched}
+use Rattle.ng_seats.specs.Served.{served_story}
 use Rattle.ng_story.specs.SoundStory.{IsSoundStory}
-use Rattle.ng_story.specs.Story.{Story, run_state_of, with_event, with_more, world_of}
+use Rattle.ng_story.specs.Story.{Story, run_state_of, with_more, world_of}
 
 -- what was fed and done since it began, all of it plain, and nothing is taken
 pub record Going (start : Story) (inputs : List Input) (now : Story) (left : List Input) : Type 0 where
@@ -22,7 +22,7 @@ pub record Going (start : Story) (inputs : List Input) (now : Story) (left : Lis
 
 -- an item is taken by the seat 0 and applied at once
 abbrev pub IsServed : Story → Story → Type 0
-IsServed s t = (id : ItemId) × (t ≡ with_event (with_event s (Take 0 id)) (Apply id))
+IsServed s t = (id : ItemId) × (t ≡ served_story s 0 id)
 
 -- how much there is to do at most: items that may be applied, and inputs
 abbrev pub to_do : Story → List Input → ℕ

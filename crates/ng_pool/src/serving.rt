@@ -67,6 +67,9 @@ pub(crate) fn serve_next<B: Node>(alloc: Global, core: &mut Core<B>) -> Result<b
     ensures others { Others 0 (story core.old) (story core.new) }
 {
     know_story(core);
+    if core.serve(alloc, 0)? {
+        return Ok(true);
+    }
     let Some(taken) = core.take(0)? else {
         return Ok(false);
     };

@@ -1,34 +1,18 @@
 // The work on what a seat took.
-ghost use Rattle.std.specs.Prelude.{◌≡◌, true, IfOk, IfErr};
+ghost use Rattle.std.specs.Prelude.{◌≡◌, IfOk, IfErr};
 ghost use Rattle.std.specs.Arc.{arc_value};
-ghost use Rattle.ng_machine.specs.Body.{is_frame};
 ghost use Rattle.ng_machine.specs.Desk.{Reads, Writes};
 ghost use Rattle.ng_pool.specs.Workable.{IsWorkable};
-ghost use Rattle.ng_story.specs.Work.{IsDone, IsEvaluated};
+ghost use Rattle.ng_story.specs.Work.{IsDone};
 ghost use Rattle.ng_world.specs.Handed.{handed_with, job_with};
 
 use ng_base::NoMemory;
-use ng_machine::{Body, Item, Outcome};
 use ng_node::Node;
-use ng_plan::{Plan, eval};
+use ng_plan::Plan;
+use ng_seats::evaluate;
 use ng_world::{BoxedItem, Done, Work};
 use std::alloc::Global;
 use std::sync::Arc;
-
-// What a plan makes of a packet.
-fn evaluate(alloc: Global, item: &Item, plan: &Plan) -> Result<Outcome, NoMemory>
-    requires { is_frame item.now.body ≡ true }
-    ensures { IfOk result (λ outcome. IsEvaluated plan.now item.now.body outcome) }
-{
-    match &item.body {
-        Body::Frame {
-            door,
-            link: _,
-            packet,
-        } => eval(alloc, plan, door, packet),
-        _ => unreachable!(),
-    }
-}
 
 // Works on a packet by a plan.
 fn read<B: Node>(alloc: Global, item: BoxedItem, plan: Arc<Plan>) -> Result<Done<B>, Work<B>>

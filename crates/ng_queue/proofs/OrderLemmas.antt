@@ -195,6 +195,26 @@ drop_remove (e ∷ es) (suc k) (suc r) le = drop_remove es k r (omega arith)
 pub waits_removed : (es : List Entry) (k r s : ℕ) → k < r → s + 1 ≡ r → AllWait (drop r es) → AllWait (drop s (remove es k))
 waits_removed es k r s lt is w = subst AllWait (sym (drop_remove es k s (omega arith))) (subst (λ (n : ℕ). AllWait (drop n es)) (let e : r ≡ suc s = omega arith in e) w)
 
+-- THE HEAD LEAVES FOR GOOD
+
+pub removes_head : (low : ℕ) (es : List Entry) (k : ℕ) (p : Item) → Ascends low es → IsHeadAt es k → head es ≡ Some p → remove es k ≡ filter (is_other p.id) es
+removes_head low es k p a h is = sym (removes_get low es k (Waiting p) a (head_get es k p h is))
+
+all_wait_remove : (es : List Entry) (k : ℕ) → AllWait es → AllWait (remove es k)
+all_wait_remove [] zero w = tt
+all_wait_remove [] (suc k) w = tt
+all_wait_remove (Waiting p ∷ es) zero w = w
+all_wait_remove (Waiting p ∷ es) (suc k) w = all_wait_remove es k w
+all_wait_remove (Out m ∷ es) k w = absurd w
+
+-- those from r on wait, and still do without one of them
+pub waits_without : (es : List Entry) (k r : ℕ) → r ≤ k → AllWait (drop r es) → AllWait (drop r (remove es k))
+waits_without es k zero le w = all_wait_remove es k w
+waits_without [] zero (suc r) le w = tt
+waits_without [] (suc k) (suc r) le w = tt
+waits_without (e ∷ es) zero (suc r) le w = absurd (omega arith)
+waits_without (e ∷ es) (suc k) (suc r) le w = waits_without es k r (omega arith) w
+
 -- WHAT IS TAKEN CAN BE PUT BACK
 
 head_above : (low : ℕ) (es : List Entry) (p : Item) → Ascends low es → head es ≡ Some p → low ≤ p.id.0

@@ -89,6 +89,26 @@ fn remove_at(entries: &mut VecDeque<Entry>, at: usize)
     }
 }
 
+// Takes the item at the head's place out.
+fn remove_head(entries: &mut VecDeque<Entry>, at: usize) -> BoxedItem
+    requires at { at < deque_len entries.old }
+    requires head { IsHeadAt entries.old.items at }
+    ensures item { head entries.old.items ≡ Some result }
+    ensures items { entries.new.items ≡ remove entries.old.items at }
+    ensures len { deque_len entries.new + 1 ≡ deque_len entries.old }
+    ensures capacity { deque_capacity entries.new ≡ deque_capacity entries.old }
+{
+    let entry = if at == 0 {
+        entries.pop_front()
+    } else {
+        entries.remove(at)
+    };
+    match entry {
+        Some(Entry::Waiting(item)) => item,
+        Some(Entry::Out(_)) | None => unreachable!(),
+    }
+}
+
 // Makes places, until there are so many.
 fn add_slots(slots: &mut Vec<Slot>, alloc: Global, n: usize) -> Result<(), NoMemory>
     ensures enough { OnOk result (n ≤ vec_len slots.new) }
@@ -250,6 +270,22 @@ impl NodeQueue {
         let at = first_waiting(&self.entries, self.reach);
         let item = take_at(&mut self.entries, at);
         self.reach = self.reach.max(at + 1);
+        item
+    }
+
+    /// Takes the first item that waits out of the queue for good, which nothing holds back: what `take` and then `done` leave.
+    /// It takes no memory.
+    pub(crate) fn dequeue(&mut self) -> BoxedItem
+        requires { hold_of self.old.entries ≡ None }
+        ensures head { head self.old.entries ≡ Some result }
+        ensures entries { self.new.entries ≡ filter (is_other result.id) self.old.entries }
+        ensures spare { self.new.spare ≡ self.old.spare }
+    {
+        let at = first_waiting(&self.entries, self.reach);
+        let item = remove_head(&mut self.entries, at);
+        if at < self.reach {
+            self.reach -= 1;
+        }
         item
     }
 

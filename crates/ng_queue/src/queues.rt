@@ -137,6 +137,18 @@ impl Queues {
         item
     }
 
+    /// Takes the head of the queue that `least` answers out of it for good: what `take` and then `done` leave. It takes no memory.
+    pub fn dequeue(&mut self, at: usize) -> BoxedItem
+        requires { IsLeast self.old.lists at }
+        ensures head { head (list_at self.old.lists at) ≡ Some result }
+        ensures lists { self.new.lists ≡ set self.old.lists at (filter (is_other result.id) (list_at self.old.lists at)) }
+        ensures spares { self.new.spares ≡ self.old.spares }
+    {
+        let item = self.queues[at].dequeue();
+        self.ready.put(at, self.queues[at].ready());
+        item
+    }
+
     /// Puts an item back at its place, where an item of its number, mode and lane is out. It takes no memory.
     pub fn back(&mut self, at: usize, item: BoxedItem)
         requires there { at < length self.old.lists }

@@ -14,3 +14,4 @@ pub mod FedStories
 pub mod Beginnings
 pub mod Starting
 pub mod StillPlans
+pub mod ServedStories

@@ -8,3 +8,4 @@ pub mod Lawful
 pub mod Counting
 pub mod StillWorld
 pub mod Planned
+pub mod Served

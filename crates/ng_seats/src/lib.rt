@@ -9,6 +9,7 @@ mod fault;
 mod feeding;
 mod machine;
 mod making;
+mod serving;
 mod showing;
 mod still;
 mod stopping;
@@ -16,4 +17,5 @@ mod taking;
 
 pub use fault::FeedFault;
 pub use machine::Core;
+pub use ng_apply::evaluate;
 pub use still::Still;

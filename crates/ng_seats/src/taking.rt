@@ -32,8 +32,8 @@ fn put_back<B: Node>(state: &mut State<B>, work: Work<B>)
 }
 
 impl<B: Node> Core<B> {
-    // Applied and taken items together reach the limit.
-    fn is_spent(&self) -> bool
+    /// Applied and taken items together reach the limit.
+    pub(crate) fn is_spent(&self) -> bool
         ensures { result ≡ nat_le self.now.budget ((world_of (story self.now)).applies + length (run_state_of (story self.now)).taken) }
     {
         let parts = &*self.parts;

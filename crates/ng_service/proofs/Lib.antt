@@ -8,3 +8,4 @@ pub mod Readings
 pub mod LeavingRoom
 pub mod Writings
 pub mod Owns
+pub mod NextReads

@@ -9,8 +9,10 @@ mod own;
 mod parts;
 mod reading;
 mod room;
+mod serving;
 mod writing;
 
 pub use own::apply_own;
 pub use reading::apply_read;
+pub use serving::{evaluate, serve};
 pub use writing::apply_write;

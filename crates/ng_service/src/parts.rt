@@ -6,10 +6,14 @@ ghost use Rattle.ng_machine.specs.Case.{absorb};
 ghost use Rattle.ng_machine.specs.Run.{RunState};
 ghost use Rattle.ng_machine.specs.State.{way_of};
 ghost use Rattle.ng_machine.specs.World.{NodeRecord, node_at};
-ghost use Rattle.ng_pending.specs.Holds.{IsOutIn, done_from, in_world};
+ghost use Rattle.ng_machine.specs.declared.item.Item.{Item as TheItem};
+ghost use Rattle.ng_pending.specs.Holds.{IsOutIn, done_from, in_world, with_taken};
+ghost use Rattle.ng_queue.specs.Queue.{head};
+ghost use Rattle.ng_queue.specs.Queues.{IsLeast, list_at};
+ghost use Rattle.ng_story.specs.Story.{IsNext};
 ghost use Rattle.ng_tally.specs.Tally.{HasNumbers};
 ghost use Rattle.ng_topology.specs.Topology.{FitsNodeAt, IsAtHome, IsThere, change_node, give_box, with_kept};
-ghost use Rattle.ng_world.specs.Stands.{MayLeave, Stands};
+ghost use Rattle.ng_world.specs.Stands.{IsStanding, MayLeave, Stands};
 
 use ng_base::NodeId;
 use ng_machine::{Counts, Item};
@@ -33,6 +37,25 @@ pub fn finish<B: Node>(state: &mut State<B>, item: &Item)
     ensures numbers { (k : ℕ) → HasNumbers (k + 1) state.old.pending.tally → HasNumbers k state.new.pending.tally }
 {
     state.pending.finish(item);
+}
+
+/// The item that is next is taken and done at once. Where it is a writer, its node's box is at home.
+pub fn dequeue<B: Node>(state: &mut State<B>, at: usize, seat: u32) -> BoxedItem
+    requires standing { IsStanding state.old }
+    requires least { IsLeast state.old.pending.queues.lists at }
+    requires leaves { (item : TheItem) → head (list_at state.old.pending.queues.lists at) ≡ Some item → MayLeave state.old.graph item }
+    requires numbers { HasNumbers 1 state.old.pending.tally }
+    ensures head { head (list_at state.old.pending.queues.lists at) ≡ Some result }
+    ensures next { (a : RunState) → Stands state.old a → IsNext a result }
+    ensures stands { (a : RunState) → Stands state.old a → Stands state.new (done_from (with_taken a result.id.0 seat) result) }
+    ensures graph { state.new.graph ≡ state.old.graph }
+    ensures spares { state.new.pending.queues.spares ≡ state.old.pending.queues.spares }
+    ensures lists { length state.new.pending.queues.lists ≡ length state.old.pending.queues.lists }
+    ensures told { state.new.told ≡ state.old.told }
+    ensures ports { state.new.ports ≡ state.old.ports }
+    ensures numbers { (k : ℕ) → HasNumbers (k + 1) state.old.pending.tally → HasNumbers k state.new.pending.tally }
+{
+    state.pending.dequeue(at, seat)
 }
 
 /// What was counted reaches a node whose box is at home.

@@ -1,11 +1,16 @@
 // A packet at a kind that reads.
-ghost use Rattle.std.specs.Prelude.{◌≡◌, true, IfErr, OnErr, OnOk};
+ghost use Rattle.std.specs.Prelude.{◌≡◌, ◌+◌, ◌<◌, true, length, vec_len, vec_capacity, IfErr, OnErr, OnOk};
 ghost use Rattle.ng_machine.specs.LowRun.{IsLow};
 ghost use Rattle.ng_machine.specs.Run.{RunState};
-ghost use Rattle.ng_machine.specs.World.{NodeRecord};
+ghost use Rattle.ng_machine.specs.World.{NodeRecord, node_in};
+ghost use Rattle.ng_pending.specs.Holds.{done_from};
+ghost use Rattle.ng_pending.specs.Room.{HasRoom};
 ghost use Rattle.ng_step.specs.Applied.{IsAtNode, applied_from};
+ghost use Rattle.ng_tally.specs.Tally.{HasNumbers};
 ghost use Rattle.ng_topology.specs.Topology.{is_home};
 ghost use Rattle.ng_world.specs.Stands.{Stands};
+ghost use Rattle.ng_service.specs.Followers.{is_short, needs, target_by};
+ghost use Rattle.ng_service.specs.Room.{HasRoomToLeave};
 ghost use Rattle.ng_service.specs.Work.{IsReadAt};
 
 use crate::conclusion::{conclude, is_short, target};
@@ -17,7 +22,29 @@ use ng_queue::BoxedItem;
 use ng_world::State;
 use std::alloc::Global;
 
-// The same, of an item that stays with the caller.
+/// What a plan made of a packet comes about, once the packet is done. There is room for it.
+pub(crate) fn bring_about<B: Node>(
+    alloc: Global,
+    state: &mut State<B>,
+    item: &Item,
+    outcome: Outcome,
+)
+    requires work { (a : RunState) × (node : NodeRecord) × Stands state.old (done_from a item.now) × IsAtNode a item.now node × IsReadAt item.now node outcome }
+    requires home { is_home state.old.graph item.now.to ≡ true }
+    requires short { is_short outcome.answer ≡ true }
+    requires leaving { HasRoomToLeave item.now.to (length outcome.leaves) state.old }
+    requires told { vec_len state.old.told < vec_capacity state.old.told }
+    requires room { HasRoom (needs (node_in state.old.graph.nodes item.now.to) (target_by item.now.to item.now.body outcome.learn outcome.answer)
+        outcome.sends) state.old.pending }
+    requires numbers { HasNumbers (length outcome.leaves + (length outcome.sends + 2)) state.old.pending.tally }
+    ensures { (a : RunState) (node : NodeRecord) → Stands state.old (done_from a item.now) → IsAtNode a item.now node
+        → IsReadAt item.now node outcome → Stands state.new (applied_from a item.now) }
+{
+    absorb(state, item.to, &outcome.counts);
+    conclude(alloc, state, item, outcome);
+}
+
+// The packet is applied as by the call below, and stays with the caller.
 fn apply_read_item<B: Node>(
     alloc: Global,
     state: &mut State<B>,
@@ -38,8 +65,7 @@ fn apply_read_item<B: Node>(
         return Err(outcome);
     };
     finish(state, item);
-    absorb(state, item.to, &outcome.counts);
-    conclude(alloc, state, item, outcome);
+    bring_about(alloc, state, item, outcome);
     Ok(())
 }
 

@@ -102,6 +102,7 @@ pub fn make_room<B: Node>(
         → vec_len port.leaving + length outcome.now.leaves ≤ vec_capacity port.leaving) }
     ensures few { length outcome.now.leaves + length outcome.now.sends < 2 ^ 61 }
     ensures graph { state.new.graph ≡ state.old.graph }
+    ensures lists { state.new.pending.queues.lists ≡ state.old.pending.queues.lists }
     ensures tally { state.new.pending.tally ≡ state.old.pending.tally }
 {
     let leaves = outcome.leaves.as_slice().len();

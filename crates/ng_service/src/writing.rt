@@ -16,7 +16,7 @@ use ng_queue::BoxedItem;
 use ng_world::State;
 use std::alloc::Global;
 
-// The same, of an item that stays with the caller.
+// The writer is applied as by the call below, and stays with the caller.
 fn apply_write_item<B: Node>(
     alloc: Global,
     state: &mut State<B>,

@@ -189,6 +189,17 @@ impl<B: Node> Entry<B> {
         }
     }
 
+    /// The plan of a node that has one, to be looked at.
+    pub fn peek_plan(&self) -> &Plan
+        requires { IsSome (way_of (state_of self.now.node)) }
+        ensures { way_of (state_of self.now.node) ≡ Some result.now }
+    {
+        match &self.plan {
+            Some(plan) => plan,
+            None => unreachable!(),
+        }
+    }
+
     /// Adds a hook that the type takes and the node lacks, and gives the plan that the node had before. Its box is at home.
     ///
     /// # Errors

@@ -287,6 +287,18 @@ impl<B: Node> Graph<B> {
         }
     }
 
+    /// The plan of a node that is there and has one, to be looked at.
+    pub fn peek_plan(&self, id: NodeId) -> &Plan
+        requires there { IsThere self.now id }
+        requires planned { (node : NodeRecord) → node_in self.now.nodes id ≡ Some node → IsSome (way_of (state_of node)) }
+        ensures { (node : NodeRecord) → node_in self.now.nodes id ≡ Some node → way_of (state_of node) ≡ Some result.now }
+    {
+        match self.places.entry(id) {
+            Some(entry) => entry.peek_plan(),
+            None => unreachable!(),
+        }
+    }
+
     /// A number that no link has had. It takes no memory.
     pub fn fresh_link(&mut self) -> LinkId
         requires { self.old.next_link < 4000000000 }

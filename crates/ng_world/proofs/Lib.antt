@@ -5,3 +5,4 @@ pub mod SentItems
 pub mod BoxesHome
 pub mod FedPackets
 pub mod ToldEntries
+pub mod ServedItems

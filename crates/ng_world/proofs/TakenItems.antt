@@ -33,7 +33,7 @@ use Rattle.ng_world.proofs.StandsAfter.{stands_with}
 pub same_some : {A : Type 0} (x y : A) → Some x ≡ Some y → x ≡ y
 same_some x y e = cc
 
-writer_more : (node : NodeRecord) (pending : List Item) (taken : List Taken) (id seat n : ℕ) → WriterOut node pending taken n → WriterOut node pending (taken ++ taking id seat ∷ []) n
+pub writer_more : (node : NodeRecord) (pending : List Item) (taken : List Taken) (id seat n : ℕ) → WriterOut node pending taken n → WriterOut node pending (taken ++ taking id seat ∷ []) n
 writer_more node pending taken id seat n W = record {
   item = W.item;
   is_pending = W.is_pending;

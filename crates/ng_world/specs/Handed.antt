@@ -1,7 +1,9 @@
 -- What a seat is handed, by its job, and what it hands in.
+use Rattle.std.specs.Prelude.{Option, Some, None}
 use Rattle.std.specs.Arc.{arc_value}
 use Rattle.ng_machine.specs.declared.item.Item.{Item}
-use Rattle.ng_machine.specs.Desk.{Job, Within, Reads, Writes}
+use Rattle.ng_machine.specs.declared.plan.Plan.{Plan as ThePlan}
+use Rattle.ng_machine.specs.Desk.{Job, Idle, Within, Reads, Writes}
 use Rattle.ng_machine.specs.State.{State}
 use Rattle.ng_machine.specs.World.{NodeRecord, state_of}
 use Rattle.ng_world.specs.declared.handed.Work.{Work}
@@ -28,6 +30,13 @@ abbrev pub job_by : Tool → Item → NodeRecord → Job
 job_by (Plan plan) item node = Reads item (arc_value plan)
 job_by Node item node = Writes item (state_of node)
 job_by Nothing item node = Within item
+
+-- the plan that works on a job, where one does
+abbrev pub plan_in : Job → Option ThePlan
+plan_in Idle = None
+plan_in (Within item) = None
+plan_in (Reads item plan) = Some plan
+plan_in (Writes item state) = None
 
 abbrev pub item_done : {B : Type 0} → Done B → Item
 item_done (done.Read item outcome) = item

@@ -2,7 +2,8 @@
 ghost use Rattle.std.specs.Prelude.{◌≡◌, ℕ, ◌+◌, ◌<◌, ◌^◌, true, false, is_some, None, Some, IfOk, OnErr, IfSome, IfNone};
 ghost use Rattle.ng_machine.specs.declared.item.Item.{Item as TheItem};
 ghost use Rattle.ng_machine.specs.Body.{is_writer};
-ghost use Rattle.ng_machine.specs.Desk.{Job, job_of, job_at};
+ghost use Rattle.ng_machine.specs.declared.plan.Plan.{Plan as ThePlan};
+ghost use Rattle.ng_machine.specs.Desk.{Job, Reads, job_of, job_at};
 ghost use Rattle.ng_machine.specs.Orderly.{MayTake};
 ghost use Rattle.ng_machine.specs.Run.{RunState};
 ghost use Rattle.ng_machine.specs.World.{NodeRecord, kind_at, node_at, node_in, state_of};
@@ -13,7 +14,7 @@ ghost use Rattle.ng_story.specs.Story.{IsNext};
 ghost use Rattle.ng_topology.specs.Topology.{IsAtHome, linked_hook_at};
 ghost use Rattle.ng_machine.specs.Effect.{is_hook_gone, lacks_link, class_of};
 ghost use Rattle.ng_machine.specs.Desk.{is_of_kind};
-ghost use Rattle.ng_world.specs.Handed.{item_of, job_by, job_with};
+ghost use Rattle.ng_world.specs.Handed.{item_of, job_by, job_with, plan_in};
 ghost use Rattle.ng_world.specs.Lent.{WriterOut};
 ghost use Rattle.ng_world.specs.Stands.{IsStanding, Stands};
 
@@ -23,6 +24,7 @@ use ng_base::{Kind, LinkId, Name, NoMemory, NodeId};
 use ng_machine::{Body, Door, Item};
 use ng_message::{ANSWER_FLAG, GENERIC_COOKIE, Msg};
 use ng_node::Node;
+use ng_plan::Plan;
 use ng_queue::BoxedItem;
 use ng_topology::Graph;
 
@@ -93,6 +95,23 @@ fn tool_for<B: Node>(graph: &Graph<B>, item: &Item) -> Result<Tool, NoMemory>
     }
 }
 
+// The plan that works on the item at its node, where one does.
+fn reader_of<'a, B: Node>(graph: &'a Graph<B>, item: &Item) -> Option<&'a Plan>
+    requires { (node : NodeRecord) × (node_in graph.now.nodes item.now.to ≡ Some node) × (item.now.writer ≡ is_writer (kind_at node) item.now.body) }
+    ensures some { IfSome result (λ plan. (node : NodeRecord) → node_in graph.now.nodes item.now.to ≡ Some node
+        → item.now.writer ≡ is_writer (kind_at node) item.now.body → job_at item.now (Some node) ≡ Reads item.now plan.now) }
+    ensures none { IfNone result ((node : NodeRecord) → node_in graph.now.nodes item.now.to ≡ Some node
+        → item.now.writer ≡ is_writer (kind_at node) item.now.body → plan_in (job_at item.now (Some node)) ≡ None) }
+{
+    if item.writer || is_hook_gone(graph, item.to, &item.body) {
+        return None;
+    }
+    match &item.body {
+        Body::Frame { .. } => Some(graph.peek_plan(item.to)),
+        _ => None,
+    }
+}
+
 impl<B: Node> State<B> {
     // Lends the node, which has its writer.
     fn lend(&mut self, at: NodeId) -> B
@@ -131,6 +150,25 @@ impl<B: Node> State<B> {
         };
         let tool = tool_for(&self.graph, self.pending.head(at))?;
         Ok(Some((at, tool)))
+    }
+
+    /// The queue with the least item that may be taken, and the plan of its node, where that item is a packet that the plan works
+    /// on.
+    pub fn next_read(&self) -> Option<(usize, &Plan)>
+        requires { IsStanding self.now }
+        ensures least { IfSome result (λ x. IsLeast self.now.pending.queues.lists x.0) }
+        ensures job { IfSome result (λ x. (a : RunState) (item : TheItem) → Stands self.now a
+            → head (list_at self.now.pending.queues.lists x.0) ≡ Some item → job_of a.world item ≡ Reads item x.1.now) }
+        ensures none { IfNone result ((a : RunState) (item : TheItem) (plan : ThePlan) → Stands self.now a
+            → IsNext a item → job_of a.world item ≡ Reads item plan → ⊥) }
+    {
+        let Some(at) = self.pending.least() else {
+            return None;
+        };
+        let Some(plan) = reader_of(&self.graph, self.pending.head(at)) else {
+            return None;
+        };
+        Some((at, plan))
     }
 
     /// Takes the least item that may be taken, where there is one.

@@ -1,8 +1,6 @@
-use Rattle.std.proofs.Common.{◌≡◌, sym, subst}
+use Rattle.std.proofs.Common.{sym, subst}
 use Rattle.ng_machine.specs.declared.item.Item.{Item}
 use Rattle.ng_orders.specs.Inside.{Became}
-use Rattle.ng_orders.specs.declared.inside.Inside.{Inside}
-use Rattle.ng_orders.specs.declared.inside.Inside.TheVariants.{Done, Left}
 use Rattle.ng_orders.proofs.Classed.{if_ok}
 use Rattle.ng_apply.specs.AtHand.{Applies, IsWithin}
 use Rattle.ng_world.specs.declared.state.State.{State}

@@ -1,4 +1,3 @@
-use Rattle.std.proofs.Common.{◌≡◌}
 use Rattle.ng_apply.proofs.AtHands.{leave_step, within_home}
 use Rattle.ng_orders.proofs.Classed.{if_ok}
 use Rattle.ng_apply.proofs.removing.apply_left.Goals as goal

@@ -1,9 +1,6 @@
-use Rattle.std.proofs.Common.{◌≡◌, ◌∙◌, true, Result, Ok, sym, ap}
+use Rattle.std.proofs.Common.{◌∙◌, Ok, sym, ap}
 use Rattle.std.proofs.lemmas.Bool.{eq-eqb, ne_eqb}
 use Rattle.ng_message.specs.Numbers.{generic_cookie}
-use Rattle.ng_base.specs.declared.errno.Errno.{Errno}
-use Rattle.ng_generic.specs.Orders.{read_as}
-use Rattle.ng_machine.specs.Order.{Order, read_order}
 use Rattle.ng_machine.specs.Run.{RunState}
 use Rattle.ng_machine.specs.World.{NodeRecord}
 use Rattle.ng_orders.specs.Inside.{removes_as_read}

@@ -1,83 +1,48 @@
-use Rattle.std.proofs.Common.{◌≡◌, ◌∙◌, ℕ, ◌+◌, ◌≤◌, ◌^◌, List, length, set, sym, ap, subst, arith, refl}
+use Rattle.std.proofs.Common.{◌≡◌, ◌∙◌, ℕ, List, ◌+◌, ◌≤◌, ◌^◌, length, sym, ap, subst, arith}
 use Rattle.std.specs.declared.option.Option.{Option}
-use Rattle.std.specs.declared.option.Option.TheVariants.{Some}
 use Rattle.ng_base.specs.declared.ids.NodeId.{NodeId}
-use Rattle.ng_machine.specs.declared.item.Item.{Item}
-use Rattle.ng_machine.specs.declared.outcome.Outcome.{Outcome}
-use Rattle.ng_machine.specs.Case.{absorb}
-use Rattle.ng_machine.specs.Run.{RunState}
 use Rattle.ng_machine.specs.World.{NodeRecord, node_in}
-use Rattle.ng_pending.specs.declared.pending.Pending.{Pending}
-use Rattle.ng_pending.specs.Holds.{done_from, in_world}
 use Rattle.ng_queue.specs.Queues.{spare_at}
 use Rattle.ng_tally.specs.declared.tally.Tally.{Tally}
 use Rattle.ng_tally.specs.Tally.{HasNumbers}
-use Rattle.ng_step.specs.Applied.{IsAtNode}
-use Rattle.ng_topology.specs.Topology.{Topology, change_node, with_kept}
-use Rattle.ng_world.specs.Stands.{Stands}
-use Rattle.ng_world.specs.Room.{wants}
-use Rattle.ng_service.specs.Followers.{follows, needs, target_by}
+use Rattle.ng_topology.specs.Topology.{Topology}
+use Rattle.ng_service.specs.Followers.{needs, target_by}
 use Rattle.ng_service.proofs.LeavingRoom.{leaving_kept}
-use Rattle.ng_service.proofs.Changes.{applied_set}
-use Rattle.ng_service.proofs.NodesChanged.{wants_changed}
 use Rattle.ng_service.proofs.Numbers.{fewer_numbers, has_numbers}
-use Rattle.ng_service.proofs.Readings.{read_effect, read_may, read_stands}
 use Rattle.ng_service.proofs.reading.apply_read_item.Goals as goal
-use Rattle.ng_service.proofs.reading.apply_read_item.Goals.{After-absorb}
 
 pub finish-requires-clause-numbers : goal.finish-requires-clause-numbers
 finish-requires-clause-numbers g c κs within =
     subst (λ (t : Tally). HasNumbers 1 t) (sym c.make_room.ensures.tally) (fewer_numbers 1 (2 ^ 62) c.args.state.now.pending.tally (omega arith) (has_numbers c.args.state.now c.requires.work.0 c.requires.work.2 c.requires.work.4))
 
--- the run after the counts reached the node
-abbrev absorbed_run : RunState → Item → NodeRecord → Outcome → RunState
-absorbed_run a item node outcome = in_world (done_from a item) (record ((done_from a item).world) { nodes = set a.world.nodes item.to.0 (Some (with_kept (absorb node.kept outcome.counts) node)) })
+pub bring_about-requires-clause-work : goal.bring_about-requires-clause-work
+bring_about-requires-clause-work g c κs within =
+    let a = c.requires.work.0 in
+    (a, c.requires.work.1, c.finish.ensures.stands a (c.make_room.ensures.stands a c.requires.work.2) c.requires.work.3.out, c.requires.work.3, c.requires.work.5)
 
-stands_absorbed : (g : _) (c : After-absorb g) (a : RunState) (node : NodeRecord) → Stands c.args.state.now a → IsAtNode a c.args.item.now node → Stands c.absorb.new.state (absorbed_run a c.args.item.now node c.args.outcome)
-stands_absorbed g c a node S at = c.absorb.ensures.stands (done_from a c.args.item.now) node (c.finish.ensures.stands a (c.make_room.ensures.stands a S) at.out) at.here
-
-numbers_absorbed : (g : _) (c : After-absorb g) (k : ℕ) → k + 1 ≤ 2 ^ 62 → HasNumbers k c.absorb.new.state.pending.tally
-numbers_absorbed g c k le =
-    subst (λ (p : Pending). HasNumbers k p.tally) (sym c.absorb.ensures.pending) (c.finish.ensures.numbers k
-    (subst (λ (t : Tally). HasNumbers (k + 1) t) (sym c.make_room.ensures.tally) (fewer_numbers (k + 1) (2 ^ 62) c.args.state.now.pending.tally le (has_numbers c.args.state.now c.requires.work.0 c.requires.work.2 c.requires.work.4))))
-
-pub conclude-requires-clause-standing : goal.conclude-requires-clause-standing
-conclude-requires-clause-standing g c κs within =
-    let at = (goal.at.conclude-requires-clause-standing g c).After-absorb in
-    (absorbed_run c.requires.work.0 c.args.item.now c.requires.work.1 c.args.outcome, stands_absorbed g at c.requires.work.0 c.requires.work.1 c.requires.work.2 c.requires.work.3)
-
-pub conclude-requires-clause-may : goal.conclude-requires-clause-may
-conclude-requires-clause-may g c κs within = λ fine. read_may c.args.item.now c.requires.work.1 c.args.outcome c.requires.work.5
-
-pub conclude-requires-clause-leaving : goal.conclude-requires-clause-leaving
-conclude-requires-clause-leaving g c κs within =
-    let told = c.absorb.ensures.told ∙ c.finish.ensures.told in
-    let ports = c.absorb.ensures.ports ∙ c.finish.ensures.ports in
-    leaving_kept c.make_room.new.state c.absorb.new.state c.requires.work.0 c.args.item.now.to (length c.args.outcome.leaves) (c.make_room.ensures.stands c.requires.work.0 c.requires.work.2) c.requires.work.4 told ports
+pub bring_about-requires-clause-leaving : goal.bring_about-requires-clause-leaving
+bring_about-requires-clause-leaving g c κs within =
+    leaving_kept c.make_room.new.state c.finish.new.state c.requires.work.0 c.args.item.now.to (length c.args.outcome.leaves) (c.make_room.ensures.stands c.requires.work.0 c.requires.work.2) c.requires.work.4 c.finish.ensures.told c.finish.ensures.ports
     (let few = c.make_room.ensures.few in omega arith) c.in-Ok.ensures.told c.in-Ok.ensures.port
 
-pub conclude-requires-clause-room : goal.conclude-requires-clause-room
-conclude-requires-clause-room g c κs within = λ n lt.
-    let f = λ (node : NodeRecord). with_kept (absorb node.kept c.args.outcome.counts) node in
-    let graph : c.finish.new.state.graph ≡ c.args.state.now.graph = c.finish.ensures.graph ∙ c.make_room.ensures.graph in
-    let here : wants (node_in c.absorb.new.state.graph.nodes c.args.item.now.to) c.args.outcome.sends n ≡ wants (node_in c.args.state.now.graph.nodes c.args.item.now.to) c.args.outcome.sends n =
-    ap (λ (t : Topology). wants (node_in t.nodes c.args.item.now.to) c.args.outcome.sends n) c.absorb.ensures.graph
-    ∙ ap (λ (t : Topology). wants (node_in (change_node t c.args.item.now.to f).nodes c.args.item.now.to) c.args.outcome.sends n) graph
-    ∙ wants_changed c.args.state.now.graph.nodes c.args.item.now.to f c.args.outcome.sends n (λ r. refl) in
-    let spares : spare_at c.absorb.new.state.pending.queues.spares n ≡ spare_at c.make_room.new.state.pending.queues.spares n = ap (λ (p : Pending). spare_at p.queues.spares n) c.absorb.ensures.pending ∙ ap (λ (l : List ℕ). spare_at l n) c.finish.ensures.spares in
-    let lists : length c.absorb.new.state.pending.queues.lists ≡ length c.make_room.new.state.pending.queues.lists = ap (λ (p : Pending). length p.queues.lists) c.absorb.ensures.pending ∙ c.finish.ensures.lists in
+pub bring_about-requires-clause-room : goal.bring_about-requires-clause-room
+bring_about-requires-clause-room g c κs within = λ n lt.
+    let node : node_in c.finish.new.state.graph.nodes c.args.item.now.to ≡ node_in c.args.state.now.graph.nodes c.args.item.now.to = ap (λ (t : Topology). node_in t.nodes c.args.item.now.to) (c.finish.ensures.graph ∙ c.make_room.ensures.graph) in
+    let here : needs (node_in c.finish.new.state.graph.nodes c.args.item.now.to) (target_by c.args.item.now.to c.args.item.now.body c.args.outcome.learn c.args.outcome.answer) c.args.outcome.sends n
+    ≡ needs (node_in c.args.state.now.graph.nodes c.args.item.now.to) (target_by c.args.item.now.to c.args.item.now.body c.args.outcome.learn c.args.outcome.answer) c.args.outcome.sends n =
+    ap (λ (o : Option NodeRecord). needs o (target_by c.args.item.now.to c.args.item.now.body c.args.outcome.learn c.args.outcome.answer) c.args.outcome.sends n) node in
+    let spares : spare_at c.finish.new.state.pending.queues.spares n ≡ spare_at c.make_room.new.state.pending.queues.spares n = ap (λ (l : List ℕ). spare_at l n) c.finish.ensures.spares in
+    let lists = c.finish.ensures.lists in
     let room : needs (node_in c.args.state.now.graph.nodes c.args.item.now.to) (target_by c.args.item.now.to c.args.item.now.body c.args.outcome.learn c.args.outcome.answer) c.args.outcome.sends n ≤ spare_at c.make_room.new.state.pending.queues.spares n =
     subst (λ (o : Option NodeId). needs (node_in c.args.state.now.graph.nodes c.args.item.now.to) o c.args.outcome.sends n ≤ spare_at c.make_room.new.state.pending.queues.spares n) c.target.ensures (c.in-Ok.ensures.room n (omega arith)) in
     omega arith
 
-pub conclude-requires-clause-numbers : goal.conclude-requires-clause-numbers
-conclude-requires-clause-numbers g c κs within =
-    numbers_absorbed g (goal.at.conclude-requires-clause-numbers g c).After-absorb (length c.args.outcome.leaves + (length c.args.outcome.sends + 2)) (let few = c.make_room.ensures.few in omega arith)
+pub bring_about-requires-clause-numbers : goal.bring_about-requires-clause-numbers
+bring_about-requires-clause-numbers g c κs within =
+    let few = c.make_room.ensures.few in
+    c.finish.ensures.numbers (length c.args.outcome.leaves + (length c.args.outcome.sends + 2))
+    (subst (λ (t : Tally). HasNumbers (length c.args.outcome.leaves + (length c.args.outcome.sends + 2) + 1) t) (sym c.make_room.ensures.tally)
+    (fewer_numbers (length c.args.outcome.leaves + (length c.args.outcome.sends + 2) + 1) (2 ^ 62) c.args.state.now.pending.tally (omega arith) (has_numbers c.args.state.now c.requires.work.0 c.requires.work.2 c.requires.work.4)))
 
 pub returns-clause-applied : goal.returns-clause-applied
-returns-clause-applied g c = λ a node S at L R.
-    let after = (goal.at.returns-clause-applied g c).After-absorb in
-    subst (λ (b : RunState). Stands c.conclude.new.state b)
-    (sym (applied_set a c.args.item.now node (with_kept (absorb node.kept c.args.outcome.counts) node) (follows c.args.item.now c.args.outcome) at (read_stands c.args.item.now node c.args.outcome R)
-    (read_effect (done_from a c.args.item.now).world c.args.item.now node c.args.outcome R)))
-    (c.conclude.ensures (absorbed_run a c.args.item.now node c.args.outcome) (stands_absorbed g after a node S at))
+returns-clause-applied g c = λ a node S at L R. c.bring_about.ensures a node (c.finish.ensures.stands a (c.make_room.ensures.stands a S) at.out) at R

@@ -1,5 +1,4 @@
 use Rattle.std.proofs.Common.{◌≡◌, ◌<◌, length, map, set, refl, sym, subst, arith}
-use Rattle.std.proofs.lemmas.Grind.{common_steps}
 use Rattle.ng_machine.specs.declared.item.Item.{Item}
 use Rattle.ng_queue.specs.Queue.{IsOutAs, mark_of, put_back}
 use Rattle.ng_queue.specs.Queues.{list_at}

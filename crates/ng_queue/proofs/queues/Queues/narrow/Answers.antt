@@ -1,4 +1,4 @@
-use Rattle.std.proofs.Common.{ℕ, ap, sym, ◌∙◌, map, subst, List}
+use Rattle.std.proofs.Common.{ap, sym, ◌∙◌, map, subst, List}
 use Rattle.ng_machine.specs.World.{item_id}
 use Rattle.ng_queue.specs.declared.entry.Entry.{Entry}
 use Rattle.ng_queue.specs.Queue.{IsBelow}

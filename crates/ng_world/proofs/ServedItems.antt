@@ -1,0 +1,57 @@
+-- The item that is next is done at once.
+use Rattle.std.proofs.Common.{◌≡◌, ◌∙◌, ◌∷◌, [], ◌++◌, ℕ, length, not, refl, sym, ap, arith}
+use Rattle.std.specs.Prelude.{◌==◌}
+use Rattle.std.specs.declared.option.Option.TheVariants.{None, Some}
+use Rattle.ng_machine.specs.declared.item.Item.{Item}
+use Rattle.ng_machine.specs.declared.plan.Plan.{Plan}
+use Rattle.ng_machine.specs.Body.{is_writer}
+use Rattle.ng_machine.specs.Desk.{Reads, job_at, job_of}
+use Rattle.ng_machine.specs.Run.{RunState}
+use Rattle.ng_machine.specs.World.{NodeRecord, kind_at, node_in}
+use Rattle.ng_machine.proofs.Standing.{of_filter}
+use Rattle.ng_queue.specs.Queue.{head}
+use Rattle.ng_queue.specs.Queues.{IsLeast, list_at}
+use Rattle.ng_story.specs.Story.{IsNext}
+use Rattle.ng_tie.specs.Tie.{taking}
+use Rattle.ng_tie.proofs.SortedItems.{sorted_one}
+use Rattle.ng_pending.specs.Holds.{HoldsItems, done_from, with_taken}
+use Rattle.ng_pending.proofs.HeldItems.{next_held}
+use Rattle.ng_world.specs.declared.state.State.{State}
+use Rattle.ng_world.specs.Handed.{plan_in}
+use Rattle.ng_world.specs.Stands.{Stands, MayLeave}
+use Rattle.ng_world.proofs.SentItems.{out_but}
+use Rattle.ng_world.proofs.StandsAfter.{stands_with}
+use Rattle.ng_world.proofs.TakenItems.{ItemNode, item_node, writer_more}
+
+-- one item alone is next
+pub next_one : {B : Type 0} (s : State B) (a : RunState) (x y : Item) → Stands s a → IsNext a x → IsNext a y → x ≡ y
+next_one s a x y S N M = sorted_one 0 a.world.pending x y S.items.sorted N.may.pending M.may.pending (let le = N.least y M.may in let ge = M.least x N.may in omega arith)
+
+-- the node of the head of the queue that is the least
+pub head_node : {B : Type 0} (s : State B) (a : RunState) (at : ℕ) (item : Item) → Stands s a → IsLeast s.pending.queues.lists at → head (list_at s.pending.queues.lists at) ≡ Some item → ItemNode s a item
+head_node s a at item S least e = item_node s a item S (next_held s.pending a at item S.items least e).0.may.pending
+
+-- no packet for a plan is next where no plan works on the head
+pub none_reads : {B : Type 0} (s : State B) (a : RunState) (at : ℕ) (x item : Item) (plan : Plan) → Stands s a → IsLeast s.pending.queues.lists at → head (list_at s.pending.queues.lists at) ≡ Some x
+    → ((node : NodeRecord) → node_in s.graph.nodes x.to ≡ Some node → x.writer ≡ is_writer (kind_at node) x.body → plan_in (job_at x (Some node)) ≡ None) → IsNext a item → job_of a.world item ≡ Reads item plan → ⊥
+none_reads s a at x item plan S least e none N reads =
+    let P = head_node s a at x S least e in
+    let same = next_one s a x item S (next_held s.pending a at x S.items least e).0 N in
+    let found : plan_in (job_at x (Some P.node)) ≡ Some plan = ap plan_in (sym (ap (job_at x) P.node_is) ∙ ap (job_of a.world) same ∙ reads) in
+    let z : None ≡ Some plan = sym (none P.node P.here P.mode) ∙ found in
+    cc
+
+-- the head's job, where a plan works on it
+pub head_job : {B : Type 0} (s : State B) (a : RunState) (at : ℕ) (x : Item) (plan : Plan) → Stands s a → IsLeast s.pending.queues.lists at → head (list_at s.pending.queues.lists at) ≡ Some x
+    → ((node : NodeRecord) → node_in s.graph.nodes x.to ≡ Some node → x.writer ≡ is_writer (kind_at node) x.body → job_at x (Some node) ≡ Reads x plan) → job_of a.world x ≡ Reads x plan
+head_job s a at x plan S least e reads =
+    let P = head_node s a at x S least e in
+    ap (job_at x) P.node_is ∙ reads P.node P.here P.mode
+
+pub stands_served : {B : Type 0} (s t : State B) (a : RunState) (p : Item) (seat : ℕ) → Stands s a → IsNext a p → MayLeave s.graph p → HoldsItems t.pending (done_from (with_taken a p.id.0 seat) p) → t.graph ≡ s.graph
+    → length t.pending.queues.lists ≡ length s.pending.queues.lists → t.told.items ≡ s.told.items → t.ports.items ≡ s.ports.items → Stands t (done_from (with_taken a p.id.0 seat) p)
+stands_served s t a p seat S N may H graph lists told ports =
+    stands_with s t a (done_from (with_taken a p.id.0 seat) p) S H graph lists told ports (record { nodes = refl; stock = refl; next_link = refl; told = refl; ports = refl })
+    (λ q h. S.there q (of_filter (λ (x : Item). not (x.id.0 == p.id.0)) q a.world.pending h).0)
+    (λ n node is away. out_but s.graph node a.world.pending (a.taken ++ taking p.id.0 seat ∷ []) p n S.items.sorted N.may.pending may away
+    (writer_more node a.world.pending a.taken p.id.0 seat n (S.lent n node is away)))
