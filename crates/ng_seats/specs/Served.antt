@@ -11,10 +11,12 @@ use Rattle.ng_story.specs.Story.{Story, IsNext, has_ended, run_state_of, with_ev
 abbrev pub served_story : Story → ℕ → ItemId → Story
 served_story s seat id = with_event (with_event s (Take seat id)) (Apply id)
 
--- the item was the least that might be taken
+-- the item was the least that might be taken, and a packet that its node's plan works on
 pub record IsServedBy (seat : ℕ) (old new : Story) : Type 0 where
   pub item : Item
   pub next : IsNext (run_state_of old) item
+  pub plan : Plan
+  pub job : job_of (world_of old) item ≡ Reads item plan
   pub story : new ≡ served_story old seat item.id
 
 -- the core has ended, applied and taken items together reach the limit, or what is next is no packet that a plan works on

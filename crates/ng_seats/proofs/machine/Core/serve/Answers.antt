@@ -15,7 +15,7 @@ use Rattle.ng_story.specs.Story.{Story, has_ended, run_state_of, world_of}
 use Rattle.ng_world.specs.Stands.{Stands}
 use Rattle.ng_seats.specs.CoreStory.{CoreStory, story}
 use Rattle.ng_seats.specs.Kept.{IsKept, story_in}
-use Rattle.ng_seats.specs.Served.{served_story}
+use Rattle.ng_seats.specs.Served.{IsServedBy, served_story}
 use Rattle.ng_seats.proofs.OpenStories.{low_sound, low_story, open_story}
 use Rattle.ng_seats.proofs.Reached.{kept_there, story_there}
 use Rattle.ng_seats.proofs.ServedStories.{MayServe, out_served, serve_keeps_sound, serve_tells, stands_served}
@@ -94,3 +94,10 @@ returns-clause-others g c =
     let at = (goal.at.returns-clause-others g c).After-push_reserved-2 in
     subst (λ (x : CoreStory). Others c.args.seat (story x) (record (before g at) { journal = c.push_reserved-2.new.self.items })) (seen g at)
     (subst (Others c.args.seat (before g at)) (sym (grown g at)) (serve_tells (before g at) (served g at).item c.args.seat (may g at)).0)
+
+pub returns-clause-served : goal.returns-clause-served
+returns-clause-served g c = λ e.
+    let at = (goal.at.returns-clause-served g c).After-push_reserved-2 in
+    let S = served g at in
+    subst (λ (x : CoreStory). IsServedBy c.args.seat (story x) (record (before g at) { journal = c.push_reserved-2.new.self.items })) (seen g at)
+    (record { item = S.item; next = S.next; plan = S.plan; job = S.job; story = grown g at })
