@@ -1,17 +1,17 @@
 // ng_bridge(4): sends a frame toward the station that it is for.
-ghost use Rattle.std.specs.Prelude.{◌≡◌, ◌≤◌, ◌++◌, ◌==◌, not, length, IfOk, OnOk, Some};
-ghost use Rattle.std.specs.List.{filter, flat_map};
+ghost use Rattle.std.specs.Prelude.{◌≡◌, ◌∷◌, ◌≤◌, ◌++◌, ◌==◌, [], not, length, is_none, IfOk, OnOk, Some};
+ghost use Rattle.std.specs.List.{filter};
 ghost use Rattle.std.specs.Option.{option_copied};
-ghost use Rattle.ng_machine.specs.Bridge.{bridges, counts_group, counts_sent, counts_unknown, destination_of, floods, forwards, hears, host_of, is_unknown, Known, link_number, Looped, meets, one_more, seen_number, standing, standing_of, targets, to_host, toward};
+ghost use Rattle.ng_machine.specs.Bridge.{bridges, counts_group, counts_sent, counts_unknown, floods, forwards, hears, host_of, Known, link_number, Looped, meets, one_more, others, seen_number, standing, standing_of, to_host, toward};
 ghost use Rattle.ng_machine.specs.Macset.{source_of};
-ghost use Rattle.ng_machine.specs.Outcome.{counts_only};
+ghost use Rattle.ng_machine.specs.Outcome.{counts_only, nothing};
 
-use crate::links::{hook_of_link, mute_of, others};
-use ng_base::{Name, NoMemory, Packet, Sequence};
+use crate::links::{hook_of_link, mute_of};
+use ng_base::{Name, NoMemory, Packet};
 use ng_frame::MIN_FRAME_LEN;
 use ng_lookup::{
-    NameTable, Table, address_number, count_packet, counts_only, destination_of, is_broadcast,
-    is_group, link_hook, link_number, nothing, same_address, send_to, source_of,
+    NameTable, Table, address_number, count_packet, destination_of, is_broadcast, is_group,
+    link_number, same_address, send, source_of,
 };
 use ng_machine::{BridgeConfig, BridgeHost, BridgeLink, Counts, Door, Outcome};
 use std::alloc::Global;
@@ -105,35 +105,36 @@ fn count_sent(counts: &mut Counts, frame: &[u8], hook: &Name) -> Result<(), NoMe
     )
 }
 
-/// Counts a frame that goes out of some links.
-fn count_all_sent(counts: &mut Counts, frame: &[u8], hooks: &[Name]) -> Result<(), NoMemory>
+/// A frame out of a link, where it is counted, behind what an outcome has already.
+fn send_out(hook: &Name, frame: &Packet, outcome: &mut Outcome) -> Result<(), NoMemory>
     requires { 14 ≤ length frame.now }
-    ensures { OnOk result (counts.new ≡ counts.old ++ flat_map (counts_sent frame.now) hooks.now) }
+    ensures { OnOk result (outcome.new ≡ record outcome.old {
+      sends = outcome.old.sends ++ (hook.now, frame.now) ∷ [];
+      counts = outcome.old.counts ++ counts_sent frame.now hook.now;
+    }) }
 {
-    for hook in hooks {
-        count_sent(counts, frame, hook)?;
-    }
-    Ok(())
+    send(outcome, hook, frame)?;
+    count_sent(&mut outcome.counts, frame.bytes(), hook)
 }
 
-/// A frame out of some links, where it is counted.
+/// A frame out of all links but one.
 fn flood(
-    alloc: Global,
-    out: &[Name],
+    links: &[BridgeLink],
+    hook: &Name,
     frame: &Packet,
-    mut counts: Counts,
-    learn: Option<[u8; 6]>,
-) -> Result<Outcome, NoMemory>
-    requires { 14 ≤ length frame.now }
-    ensures { IfOk result (λ outcome. outcome ≡ floods out.now frame.now counts learn) }
+    outcome: &mut Outcome,
+) -> Result<(), NoMemory>
+    requires whole { 14 ≤ length frame.now }
+    requires unsent { outcome.old ≡ record nothing { counts = outcome.old.counts; learn = outcome.old.learn } }
+    ensures { OnOk result (outcome.new
+        ≡ floods (others links.now hook.now) frame.now outcome.old.counts outcome.old.learn) }
 {
-    count_all_sent(&mut counts, frame.bytes(), out)?;
-    Ok(Outcome {
-        sends: send_to(alloc, out, frame)?,
-        counts,
-        learn,
-        ..nothing(alloc)
-    })
+    for link in links {
+        if link.hook != *hook {
+            send_out(&link.hook, frame, outcome)?;
+        }
+    }
+    Ok(())
 }
 
 /// The host of an address.
@@ -147,24 +148,6 @@ fn host_of<'a>(hosts: &'a Table<BridgeHost>, address: &[u8; 6]) -> Option<&'a Br
         }
         None => None,
     }
-}
-
-/// The link of a number, where that isn't the link of arrival.
-fn toward(
-    alloc: Global,
-    links: &NameTable<BridgeLink>,
-    number: u8,
-    link: u8,
-) -> Result<Vec<Name>, NoMemory>
-    ensures { IfOk result (λ names. names.items ≡ toward links.now number link) }
-{
-    let mut names = Vec::new(alloc);
-    if link != number {
-        if let Some(hook) = hook_of_link(links, link) {
-            names.push(hook)?;
-        }
-    }
-    Ok(names)
 }
 
 /// The hosts that aren't behind a link.
@@ -184,206 +167,187 @@ pub fn hosts_without(
 }
 
 impl BridgePlan {
-    /// Out of which links a frame to one station goes, by the host that the station is.
-    fn links_to_host(
+    /// A frame toward a link, where that isn't the link of arrival.
+    fn send_toward(
         &self,
-        alloc: Global,
+        hook: &Name,
+        link: u8,
+        frame: &Packet,
+        outcome: &mut Outcome,
+    ) -> Result<(), NoMemory>
+        requires whole { 14 ≤ length frame.now }
+        requires unsent { outcome.old ≡ record nothing { counts = outcome.old.counts; learn = outcome.old.learn } }
+        ensures { OnOk result (outcome.new
+            ≡ floods (toward self.now.links (link_number hook.now) link) frame.now outcome.old.counts outcome.old.learn) }
+    {
+        if link == link_number(hook) {
+            return Ok(());
+        }
+        match hook_of_link(&self.links, link) {
+            Some(out) => send_out(&out, frame, outcome),
+            None => Ok(()),
+        }
+    }
+
+    /// A frame to one station, by the host that the station is: one that is no host is counted as unknown, and goes out
+    /// of all links but one.
+    fn send_to_host(
+        &self,
         hook: &Name,
         host: Option<&BridgeHost>,
-    ) -> Result<Vec<Name>, NoMemory>
-        ensures { IfOk result (λ names. names.items ≡ to_host self.now.links hook.now (option_copied host.entry)) }
+        frame: &Packet,
+        outcome: &mut Outcome,
+    ) -> Result<(), NoMemory>
+        requires whole { 14 ≤ length frame.now }
+        requires unsent { outcome.old ≡ record nothing { counts = outcome.old.counts; learn = outcome.old.learn } }
+        ensures { OnOk result (outcome.new
+            ≡ floods (to_host self.now.links hook.now (option_copied host.entry)) frame.now
+            (outcome.old.counts ++ counts_unknown (is_none (option_copied host.entry)) hook.now) outcome.old.learn) }
     {
         match host {
-            None => others(alloc, self.links.as_slice(), hook),
-            Some(host) => toward(alloc, &self.links, link_number(hook), host.link),
+            None => {
+                count_one(&mut outcome.counts, hook, RECV_UNKNOWN)?;
+                flood(self.links.as_slice(), hook, frame, outcome)
+            }
+            Some(host) => self.send_toward(hook, host.link, frame, outcome),
         }
-    }
-
-    /// Out of which links a frame goes.
-    fn targets(&self, alloc: Global, hook: &Name, frame: &[u8]) -> Result<Vec<Name>, NoMemory>
-        requires { 14 ≤ length frame.now }
-        ensures { IfOk result (λ names. names.items ≡ targets self.now.links self.now.hosts hook.now frame.now) }
-    {
-        let destination = destination_of(frame);
-        if is_group(&destination) {
-            others(alloc, self.links.as_slice(), hook)
-        } else if destination == source_of(frame) {
-            Ok(Vec::new(alloc))
-        } else {
-            self.links_to_host(alloc, hook, host_of(&self.hosts, &destination))
-        }
-    }
-
-    /// Whether a frame is to one station that no host is.
-    fn is_unknown(&self, frame: &[u8]) -> bool
-        requires { 14 ≤ length frame.now }
-        ensures { result ≡ is_unknown self.now.hosts frame.now }
-    {
-        let destination = destination_of(frame);
-        !is_group(&destination)
-            && destination != source_of(frame)
-            && host_of(&self.hosts, &destination).is_none()
     }
 
     /// Sends a frame on its way.
     fn forward(
         &self,
-        alloc: Global,
         hook: &Name,
         frame: &Packet,
-        mut counts: Counts,
         learn: Option<[u8; 6]>,
-    ) -> Result<Outcome, NoMemory>
-        requires { 14 ≤ length frame.now }
-        ensures { IfOk result (λ outcome.
-            outcome ≡ forwards self.now.links self.now.hosts hook.now frame.now counts learn) }
+        outcome: &mut Outcome,
+    ) -> Result<(), NoMemory>
+        requires whole { 14 ≤ length frame.now }
+        requires counted { outcome.old ≡ counts_only outcome.old.counts }
+        ensures { OnOk result (outcome.new
+            ≡ forwards self.now.links self.now.hosts hook.now frame.now outcome.old.counts learn) }
     {
-        if self.is_unknown(frame.bytes()) {
-            count_one(&mut counts, hook, RECV_UNKNOWN)?;
+        outcome.learn = learn;
+        let destination = destination_of(frame.bytes());
+        if is_group(&destination) {
+            flood(self.links.as_slice(), hook, frame, outcome)
+        } else if destination == source_of(frame.bytes()) {
+            Ok(())
+        } else {
+            self.send_to_host(hook, host_of(&self.hosts, &destination), frame, outcome)
         }
-        let out = self.targets(alloc, hook, frame.bytes())?;
-        flood(alloc, &out, frame, counts, learn)
     }
 
     /// A good frame whose source is known on its link: it is counted as seen.
-    fn meet_known(
-        &self,
-        alloc: Global,
-        hook: &Name,
-        frame: &Packet,
-        mut counts: Counts,
-    ) -> Result<Outcome, NoMemory>
-        requires { 14 ≤ length frame.now }
-        ensures { IfOk result (λ outcome.
-            outcome ≡ meets Known self.now.links self.now.hosts hook.now frame.now counts) }
+    fn meet_known(&self, hook: &Name, frame: &Packet, outcome: &mut Outcome) -> Result<(), NoMemory>
+        requires whole { 14 ≤ length frame.now }
+        requires counted { outcome.old ≡ counts_only outcome.old.counts }
+        ensures { OnOk result (outcome.new
+            ≡ meets Known self.now.links self.now.hosts hook.now frame.now outcome.old.counts) }
     {
-        count_one(&mut counts, hook, seen_number(&source_of(frame.bytes())))?;
-        self.forward(alloc, hook, frame, counts, None)
+        let seen = seen_number(&source_of(frame.bytes()));
+        count_one(&mut outcome.counts, hook, seen)?;
+        self.forward(hook, frame, None, outcome)
     }
 
     /// A good frame whose source is known on another link too short a time ago: it is dropped.
     fn meet_looped(
         &self,
-        alloc: Global,
         hook: &Name,
         frame: &Packet,
-        mut counts: Counts,
-    ) -> Result<Outcome, NoMemory>
-        requires { 14 ≤ length frame.now }
-        ensures { IfOk result (λ outcome.
-            outcome ≡ meets Looped self.now.links self.now.hosts hook.now frame.now counts) }
+        outcome: &mut Outcome,
+    ) -> Result<(), NoMemory>
+        requires whole { 14 ≤ length frame.now }
+        requires counted { outcome.old ≡ counts_only outcome.old.counts }
+        ensures { OnOk result (outcome.new
+            ≡ meets Looped self.now.links self.now.hosts hook.now frame.now outcome.old.counts) }
     {
-        count_one(&mut counts, hook, LOOP_DROPS)?;
-        Ok(Outcome {
-            counts,
-            learn: Some(source_of(frame.bytes())),
-            ..nothing(alloc)
-        })
+        outcome.learn = Some(source_of(frame.bytes()));
+        count_one(&mut outcome.counts, hook, LOOP_DROPS)
     }
 
     /// A good frame whose source is a host that is known.
     fn meet_host(
         &self,
-        alloc: Global,
         hook: &Name,
         frame: &Packet,
-        counts: Counts,
         host: &BridgeHost,
-    ) -> Result<Outcome, NoMemory>
-        requires { 14 ≤ length frame.now }
-        ensures { IfOk result (λ outcome.
-            outcome ≡ meets (standing_of self.now.config (length self.now.hosts) (link_number hook.now) (Some host.now))
-            self.now.links self.now.hosts hook.now frame.now counts) }
+        outcome: &mut Outcome,
+    ) -> Result<(), NoMemory>
+        requires whole { 14 ≤ length frame.now }
+        requires counted { outcome.old ≡ counts_only outcome.old.counts }
+        ensures { OnOk result (outcome.new
+            ≡ meets (standing_of self.now.config (length self.now.hosts) (link_number hook.now) (Some host.now))
+            self.now.links self.now.hosts hook.now frame.now outcome.old.counts) }
     {
         if host.link == link_number(hook) {
-            self.meet_known(alloc, hook, frame, counts)
+            self.meet_known(hook, frame, outcome)
         } else if u32::from(host.age) < self.config.min_stable_age {
-            self.meet_looped(alloc, hook, frame, counts)
+            self.meet_looped(hook, frame, outcome)
         } else {
             let learn = Some(source_of(frame.bytes()));
-            self.forward(alloc, hook, frame, counts, learn)
+            self.forward(hook, frame, learn, outcome)
         }
     }
 
     /// A good frame on a link that isn't mute, by how its source stands.
-    fn meet(
-        &self,
-        alloc: Global,
-        hook: &Name,
-        frame: &Packet,
-        counts: Counts,
-    ) -> Result<Outcome, NoMemory>
-        requires { 14 ≤ length frame.now }
-        ensures { IfOk result (λ outcome.
-            outcome ≡ meets (standing self.now.config self.now.hosts (link_number hook.now) (source_of frame.now))
-            self.now.links self.now.hosts hook.now frame.now counts) }
+    fn meet(&self, hook: &Name, frame: &Packet, outcome: &mut Outcome) -> Result<(), NoMemory>
+        requires whole { 14 ≤ length frame.now }
+        requires counted { outcome.old ≡ counts_only outcome.old.counts }
+        ensures { OnOk result (outcome.new
+            ≡ meets (standing self.now.config self.now.hosts (link_number hook.now) (source_of frame.now))
+            self.now.links self.now.hosts hook.now frame.now outcome.old.counts) }
     {
         let source = source_of(frame.bytes());
         match host_of(&self.hosts, &source) {
-            Some(host) => self.meet_host(alloc, hook, frame, counts, host),
+            Some(host) => self.meet_host(hook, frame, host, outcome),
             None => {
                 let has_room = self.hosts.as_slice().len() < MAX_HOSTS;
                 let learn = if has_room { Some(source) } else { None };
-                self.forward(alloc, hook, frame, counts, learn)
+                self.forward(hook, frame, learn, outcome)
             }
         }
     }
 
-    /// A frame that is counted under a number and goes nowhere.
-    fn drop_frame(
-        &self,
-        alloc: Global,
-        hook: &Name,
-        mut counts: Counts,
-        number: u64,
-    ) -> Result<Outcome, NoMemory>
-        ensures { IfOk result (λ outcome. outcome ≡ counts_only (counts ++ one_more hook.now number)) }
-    {
-        count_one(&mut counts, hook, number)?;
-        Ok(counts_only(alloc, counts))
-    }
-
     /// A packet that comes by a hook.
-    fn hear(&self, alloc: Global, hook: &Name, frame: &Packet) -> Result<Outcome, NoMemory>
-        ensures { IfOk result (λ outcome.
-            outcome ≡ hears self.now.config self.now.links self.now.hosts hook.now frame.now) }
+    fn hear(&self, hook: &Name, frame: &Packet, outcome: &mut Outcome) -> Result<(), NoMemory>
+        requires { outcome.old ≡ nothing }
+        ensures { OnOk result (outcome.new
+            ≡ hears self.now.config self.now.links self.now.hosts hook.now frame.now) }
     {
         let bytes = frame.bytes();
-        let mut counts = Sequence::new(alloc);
-        count_packet(
-            &mut counts,
-            RECV_PACKETS,
-            RECV_OCTETS,
-            hook,
-            bytes.len() as u64,
-        )?;
+        let len = bytes.len() as u64;
+        count_packet(&mut outcome.counts, RECV_PACKETS, RECV_OCTETS, hook, len)?;
         if bytes.len() < MIN_FRAME_LEN {
-            return self.drop_frame(alloc, hook, counts, RECV_RUNTS);
+            return count_one(&mut outcome.counts, hook, RECV_RUNTS);
         }
         if is_group(&source_of(bytes)) {
-            return self.drop_frame(alloc, hook, counts, RECV_INVALID);
+            return count_one(&mut outcome.counts, hook, RECV_INVALID);
         }
         if mute_of(&self.links, hook) > 0 {
-            return self.drop_frame(alloc, hook, counts, LOOP_DROPS);
+            return count_one(&mut outcome.counts, hook, LOOP_DROPS);
         }
         count_group(
-            &mut counts,
+            &mut outcome.counts,
             hook,
             RECV_BROADCASTS,
             RECV_MULTICASTS,
             &destination_of(bytes),
         )?;
-        self.meet(alloc, hook, frame, counts)
+        self.meet(hook, frame, outcome)
     }
 
-    /// What becomes of a packet.
-    pub fn work(&self, alloc: Global, door: &Door, frame: &Packet) -> Result<Outcome, NoMemory>
-        ensures { IfOk result (λ outcome.
-            outcome ≡ bridges self.now.config self.now.links self.now.hosts door.now frame.now) }
+    /// What becomes of a packet, put into an outcome that has nothing yet.
+    ///
+    /// # Errors
+    /// `NoMemory` where memory ran out, and for nothing else; the outcome may have a part of it then.
+    pub fn work(&self, door: &Door, frame: &Packet, outcome: &mut Outcome) -> Result<(), NoMemory>
+        requires { outcome.old ≡ nothing }
+        ensures { OnOk result (outcome.new
+            ≡ bridges self.now.config self.now.links self.now.hosts door.now frame.now) }
     {
         match door {
-            Door::Hook(hook) => self.hear(alloc, hook, frame),
-            Door::Wire => Ok(nothing(alloc)),
+            Door::Hook(hook) => self.hear(hook, frame, outcome),
+            Door::Wire => Ok(()),
         }
     }
 }

@@ -2,7 +2,7 @@
 ghost use Rattle.std.specs.Prelude.{◌≡◌, if◌then◌else◌, not, IfOk, Some, None};
 ghost use Rattle.std.specs.List.{filter, find, list_any};
 ghost use Rattle.std.specs.Option.{option_copied};
-ghost use Rattle.ng_machine.specs.Bridge.{is_link_of, link_hook, mute_of, others};
+ghost use Rattle.ng_machine.specs.Bridge.{is_link_of, link_hook, mute_of};
 
 use ng_base::{Name, NoMemory};
 use ng_lookup::{NameTable, link_hook};
@@ -17,19 +17,6 @@ pub fn mute_of(links: &NameTable<BridgeLink>, hook: &Name) -> u32
         Some(link) => link.mute,
         None => 0,
     }
-}
-
-/// The hooks of all links but one.
-pub fn others(alloc: Global, links: &[BridgeLink], hook: &Name) -> Result<Vec<Name>, NoMemory>
-    ensures { IfOk result (λ names. names.items ≡ others links.now hook.now) }
-{
-    let mut names = Vec::new(alloc);
-    for link in links {
-        if link.hook != *hook {
-            names.push(link.hook)?;
-        }
-    }
-    Ok(names)
 }
 
 /// The link of this name, which need not be one that a hook may have.

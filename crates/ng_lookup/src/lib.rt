@@ -23,6 +23,6 @@ pub use names::{
     all_hook, downstream, in_hook, is_named, known_hook, left, left2right, link_hook, link_number,
     lower, many, mixed, nomatch, one, other_hook, out_hook, right, right2left, upper,
 };
-pub use outcomes::{answers, counts_only, fails, leave, nothing, send, send_by, sends};
+pub use outcomes::{answers, fails, leave, nothing, send, send_by};
 pub use sending::{count_packet, count_packets, send_to};
 pub use table::Table;

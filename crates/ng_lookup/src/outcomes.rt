@@ -1,10 +1,11 @@
 // Outcomes that many types have.
-ghost use Rattle.std.specs.Prelude.{◌≡◌, ◌∷◌, [], IfOk, Some};
-ghost use Rattle.ng_machine.specs.Outcome.{counts_only, fails, leaves, nothing, sends, sends_by};
+ghost use Rattle.std.specs.Prelude.{◌≡◌, ◌∷◌, ◌++◌, [], if◌then◌else◌, OnOk, Some};
+ghost use Rattle.ng_base.specs.Names.{has_name};
+ghost use Rattle.ng_machine.specs.Outcome.{fails, nothing};
 
 use crate::hooks::Hooks;
 use ng_base::{Bytes, Errno, Name, NoMemory, Packet, Sequence};
-use ng_machine::{Counts, Exit, Outcome, Sends};
+use ng_machine::{Exit, Outcome};
 use std::alloc::Global;
 
 /// Nothing comes of a body. It takes no memory.
@@ -41,59 +42,44 @@ pub fn answers(alloc: Global, bytes: Bytes) -> Outcome
     }
 }
 
-/// Packets are sent, and nothing else. It takes no memory.
-pub fn sends(alloc: Global, packets: Sends) -> Outcome
-    ensures { result ≡ sends packets }
+/// A packet goes out of a hook, which is there, behind what an outcome sends already. The packet is shared and not copied.
+///
+/// # Errors
+/// `NoMemory` where memory ran out, and for nothing else.
+pub fn send(outcome: &mut Outcome, hook: &Name, packet: &Packet) -> Result<(), NoMemory>
+    ensures { OnOk result (outcome.new ≡ record outcome.old { sends = outcome.old.sends ++ (hook.now, packet.now) ∷ [] }) }
 {
-    Outcome {
-        sends: packets,
-        ..nothing(alloc)
-    }
+    outcome.sends.push((*hook, packet.again()?))
 }
 
-/// Something is counted, and nothing else. It takes no memory.
-pub fn counts_only(alloc: Global, counts: Counts) -> Outcome
-    ensures { result ≡ counts_only counts }
-{
-    Outcome {
-        counts,
-        ..nothing(alloc)
-    }
-}
-
-/// A packet goes out of one hook, which is there.
-pub fn send(alloc: Global, hook: &Name, packet: &Packet) -> Result<Outcome, NoMemory>
-    ensures { IfOk result (λ outcome. outcome ≡ sends ((hook.now, packet.now) ∷ [])) }
-{
-    let mut packets = Sequence::new(alloc);
-    packets.push((*hook, packet.again()?))?;
-    Ok(sends(alloc, packets))
-}
-
-/// A packet goes out of one hook, where the node has it.
+/// A packet goes out of a hook as `send` does it, where the node has the hook.
+///
+/// # Errors
+/// `NoMemory` where memory ran out, and for nothing else.
 pub fn send_by(
-    alloc: Global,
+    outcome: &mut Outcome,
     hooks: &Hooks,
     hook: &Name,
     packet: &Packet,
-) -> Result<Outcome, NoMemory>
-    ensures { IfOk result (λ outcome. outcome ≡ sends_by hooks.now hook.now packet.now) }
+) -> Result<(), NoMemory>
+    ensures { OnOk result (outcome.new
+        ≡ (if has_name hooks.now hook.now
+        then record outcome.old { sends = outcome.old.sends ++ (hook.now, packet.now) ∷ [] }
+        else outcome.old)) }
 {
     if hooks.has(hook) {
-        send(alloc, hook, packet)
+        send(outcome, hook, packet)
     } else {
-        Ok(nothing(alloc))
+        Ok(())
     }
 }
 
-/// A packet leaves the graph.
-pub fn leave(alloc: Global, exit: Exit, packet: &Packet) -> Result<Outcome, NoMemory>
-    ensures { IfOk result (λ outcome. outcome ≡ leaves exit packet.now) }
+/// A packet leaves the graph, behind what leaves it already in an outcome. The packet is shared and not copied.
+///
+/// # Errors
+/// `NoMemory` where memory ran out, and for nothing else.
+pub fn leave(outcome: &mut Outcome, exit: Exit, packet: &Packet) -> Result<(), NoMemory>
+    ensures { OnOk result (outcome.new ≡ record outcome.old { leaves = outcome.old.leaves ++ (exit, packet.now) ∷ [] }) }
 {
-    let mut packets = Sequence::new(alloc);
-    packets.push((exit, packet.again()?))?;
-    Ok(Outcome {
-        leaves: packets,
-        ..nothing(alloc)
-    })
+    outcome.leaves.push((exit, packet.again()?))
 }

@@ -1,6 +1,7 @@
 // The items that wait.
 ghost use Rattle.std.specs.Prelude.{◌≡◌, ℕ, ◌+◌, ◌-◌, ◌<◌, ◌≤◌, ◌^◌, length, slice_set, List, OnOk, IfOk, IfSome, IfNone, Some, nat_le, nat_lt, not, filter};
 ghost use Rattle.ng_machine.specs.declared.item.Item.{Item as TheItem};
+ghost use Rattle.ng_machine.specs.Body.{is_frame};
 ghost use Rattle.ng_machine.specs.Change.{accept, frames, items_of, lose, most_frames, most_spool, retire, spool_with};
 ghost use Rattle.ng_machine.specs.Feed.{later};
 ghost use Rattle.ng_machine.specs.Orderly.{MayTake};
@@ -13,6 +14,7 @@ ghost use Rattle.ng_queue.specs.Queues.{IsLeast, list_at, spare_at};
 ghost use Rattle.ng_story.specs.Story.{IsNext};
 ghost use Rattle.ng_tally.specs.Feeding.{TagsAreLast};
 ghost use Rattle.ng_tally.specs.Tally.{HasNumbers};
+ghost use Rattle.ng_tie.specs.TieLaws.{one};
 ghost use Rattle.ng_pending.specs.Holds.{HoldsItems, IsHolding, IsOutIn, NoneOut, in_world, with_taken, with_untaken, done_from, dropped_from, spooled};
 
 use ng_base::{Cause, ItemId, Kind, NoMemory, NodeId, Packet, Stamp};
@@ -151,6 +153,7 @@ impl Pending {
         ensures spares { self.new.queues.spares ≡ self.old.queues.spares }
         ensures lists { length self.new.queues.lists ≡ length self.old.queues.lists }
         ensures numbers { (k : ℕ) → HasNumbers (k + 1) self.old.tally → HasNumbers k self.new.tally }
+        ensures frames { self.old.tally.frames ≤ self.new.tally.frames + 1 }
     {
         self.forget(item);
         self.tally.finish(item);
@@ -167,6 +170,7 @@ impl Pending {
         ensures spares { self.new.queues.spares ≡ self.old.queues.spares }
         ensures lists { length self.new.queues.lists ≡ length self.old.queues.lists }
         ensures numbers { (k : ℕ) → HasNumbers (k + 1) self.old.tally → HasNumbers k self.new.tally }
+        ensures frames { self.old.tally.frames ≤ self.new.tally.frames + 1 }
     {
         let item = self.queues.dequeue(at);
         self.tally.finish(&item);
@@ -181,6 +185,7 @@ impl Pending {
         ensures spares { self.new.queues.spares ≡ self.old.queues.spares }
         ensures lists { length self.new.queues.lists ≡ length self.old.queues.lists }
         ensures numbers { (k : ℕ) → HasNumbers (k + 1) self.old.tally → HasNumbers k self.new.tally }
+        ensures frames { self.old.tally.frames ≤ self.new.tally.frames + 1 }
     {
         self.forget(item);
         self.tally.drop_for_hook(item);
@@ -229,6 +234,7 @@ impl Pending {
         ensures spares { self.new.queues.spares ≡ slice_set self.old.queues.spares to.0 (spare_at self.old.queues.spares to.0 - 1) }
         ensures lists { length self.new.queues.lists ≡ length self.old.queues.lists }
         ensures numbers { (k : ℕ) → HasNumbers (k + 1) self.old.tally → HasNumbers k self.new.tally }
+        ensures frames { self.new.tally.frames ≡ self.old.tally.frames + one (is_frame body) }
     {
         let writer = body.is_writer(kind);
         let item = Item {
@@ -265,6 +271,7 @@ impl Pending {
         ensures holds { (a : RunState) → HoldsItems self.old a → HoldsItems self.new (in_world a (lose cause a.world)) }
         ensures queues { self.new.queues ≡ self.old.queues }
         ensures numbers { (k : ℕ) → HasNumbers (k + 1) self.old.tally → HasNumbers k self.new.tally }
+        ensures frames { self.new.tally.frames ≡ self.old.tally.frames }
     {
         self.tally.lose(cause);
     }
@@ -275,6 +282,7 @@ impl Pending {
         ensures holds { (a : RunState) → HoldsItems self.old a → HoldsItems self.new (in_world a (record a.world { refused = a.world.refused + 1 })) }
         ensures queues { self.new.queues ≡ self.old.queues }
         ensures numbers { (k : ℕ) → HasNumbers (k + 1) self.old.tally → HasNumbers k self.new.tally }
+        ensures frames { self.new.tally.frames ≡ self.old.tally.frames }
     {
         self.tally.refuse();
     }
@@ -286,6 +294,7 @@ impl Pending {
         ensures holds { (a : RunState) → HoldsItems self.old a → HoldsItems self.new (in_world a (spooled result a.world packet.now)) }
         ensures queues { self.new.queues ≡ self.old.queues }
         ensures numbers { (k : ℕ) → HasNumbers (k + 1) self.old.tally → HasNumbers k self.new.tally }
+        ensures frames { self.new.tally.frames ≡ self.old.tally.frames }
     {
         self.tally.leave(packet)
     }
@@ -321,9 +330,17 @@ impl Pending {
 
     /// Whether as many packets wait as may wait where one more is sent.
     pub fn is_full(&self) -> bool
-        ensures { (a : RunState) → HoldsItems self.now a → nat_lt (frames a.world) most_frames ≡ not result }
+        ensures answer { (a : RunState) → HoldsItems self.now a → nat_lt (frames a.world) most_frames ≡ not result }
+        ensures full { nat_lt self.now.tally.frames most_frames ≡ not result }
     {
         self.tally.frames >= MOST_FRAMES
+    }
+
+    /// For how many packets more there is a place at most, once one item more is done.
+    pub fn free(&self) -> u64
+        ensures { result ≡ most_frames + 1 - self.now.tally.frames }
+    {
+        (MOST_FRAMES + 1).saturating_sub(self.tally.frames)
     }
 
     /// Why the input isn't fed, where as many items may be applied as `budget` says: the first cause that holds.

@@ -1,12 +1,13 @@
 // ng_bpf(4): a program decides where a packet goes.
-ghost use Rattle.std.specs.Prelude.{◌≡◌, not, IfOk, filter as list_filter};
+ghost use Rattle.std.specs.Prelude.{◌≡◌, not, IfOk, OnOk, filter as list_filter};
 ghost use Rattle.ng_machine.specs.Bpf.{by_match, filters, is_way_of, sends_and_counts, to_target};
+ghost use Rattle.ng_machine.specs.Outcome.{counts_only, nothing};
 ghost use Rattle.ng_plan.specs.Without.{plan_without};
 
 use ng_base::{Name, NoMemory, Packet, Sequence};
 use ng_bpf_vm::run;
-use ng_lookup::{NameTable, count_packet, counts_only, nothing, send};
-use ng_machine::{BpfWay, Counts, Door, Outcome, Plan as Way};
+use ng_lookup::{NameTable, count_packet, send};
+use ng_machine::{BpfWay, Door, Outcome, Plan as Way};
 use std::alloc::Global;
 
 /// The numbers of the counters `recvFrames`, `recvOctets`, `recvMatchFrames`, `recvMatchOctets`, `xmitFrames` and
@@ -30,20 +31,13 @@ pub struct BpfPlan {
 }
 
 /// A packet out of a hook, which is counted there beside what was counted before.
-fn send_and_count(
-    alloc: Global,
-    hook: &Name,
-    packet: &Packet,
-    mut counts: Counts,
-) -> Result<Outcome, NoMemory>
-    ensures { IfOk result (λ outcome. outcome ≡ sends_and_counts hook.now packet.now counts) }
+fn send_and_count(hook: &Name, packet: &Packet, outcome: &mut Outcome) -> Result<(), NoMemory>
+    requires { outcome.old ≡ counts_only outcome.old.counts }
+    ensures { OnOk result (outcome.new ≡ sends_and_counts hook.now packet.now outcome.old.counts) }
 {
+    send(outcome, hook, packet)?;
     let len = packet.bytes().len() as u64;
-    count_packet(&mut counts, XMIT_FRAMES, XMIT_OCTETS, hook, len)?;
-    Ok(Outcome {
-        counts,
-        ..send(alloc, hook, packet)?
-    })
+    count_packet(&mut outcome.counts, XMIT_FRAMES, XMIT_OCTETS, hook, len)
 }
 
 /// What stands at the hooks beside one.
@@ -78,20 +72,20 @@ impl BpfPlan {
     /// Out of a target, where it is there; what was counted before it stays counted.
     fn send_to_target(
         &self,
-        alloc: Global,
         target: Option<Name>,
         packet: &Packet,
-        counts: Counts,
-    ) -> Result<Outcome, NoMemory>
-        ensures { IfOk result (λ outcome. outcome ≡ to_target self.now.ways target packet.now counts) }
+        outcome: &mut Outcome,
+    ) -> Result<(), NoMemory>
+        requires { outcome.old ≡ counts_only outcome.old.counts }
+        ensures { OnOk result (outcome.new ≡ to_target self.now.ways target packet.now outcome.old.counts) }
     {
         match target {
-            None => Ok(counts_only(alloc, counts)),
+            None => Ok(()),
             Some(hook) => {
                 if self.ways.has(&hook) {
-                    send_and_count(alloc, &hook, packet, counts)
+                    send_and_count(&hook, packet, outcome)
                 } else {
-                    Ok(counts_only(alloc, counts))
+                    Ok(())
                 }
             }
         }
@@ -100,40 +94,42 @@ impl BpfPlan {
     /// A packet by a hook, by what stands there.
     fn filter_by(
         &self,
-        alloc: Global,
         way: &BpfWay,
         hook: &Name,
         packet: &Packet,
-    ) -> Result<Outcome, NoMemory>
-        ensures { IfOk result (λ outcome. outcome ≡ by_match self.now.ways way.now hook.now packet.now) }
+        outcome: &mut Outcome,
+    ) -> Result<(), NoMemory>
+        requires { outcome.old ≡ nothing }
+        ensures { OnOk result (outcome.new ≡ by_match self.now.ways way.now hook.now packet.now) }
     {
         let len = packet.bytes().len() as u64;
-        let mut counts = Sequence::new(alloc);
-        count_packet(&mut counts, RECV_FRAMES, RECV_OCTETS, hook, len)?;
+        count_packet(&mut outcome.counts, RECV_FRAMES, RECV_OCTETS, hook, len)?;
         if run(&way.program, packet.bytes()) == 0 {
-            return self.send_to_target(alloc, way.if_not_match, packet, counts);
+            return self.send_to_target(way.if_not_match, packet, outcome);
         }
-        count_packet(&mut counts, MATCH_FRAMES, MATCH_OCTETS, hook, len)?;
-        self.send_to_target(alloc, way.if_match, packet, counts)
+        count_packet(&mut outcome.counts, MATCH_FRAMES, MATCH_OCTETS, hook, len)?;
+        self.send_to_target(way.if_match, packet, outcome)
     }
 
     /// A packet that comes by a hook.
-    fn work_by(&self, alloc: Global, hook: &Name, packet: &Packet) -> Result<Outcome, NoMemory>
-        ensures { IfOk result (λ outcome. outcome ≡ filters self.now.ways (Door.Hook hook.now) packet.now) }
+    fn work_by(&self, hook: &Name, packet: &Packet, outcome: &mut Outcome) -> Result<(), NoMemory>
+        requires { outcome.old ≡ nothing }
+        ensures { OnOk result (outcome.new ≡ filters self.now.ways (Door.Hook hook.now) packet.now) }
     {
         match self.ways.find(hook) {
-            None => Ok(nothing(alloc)),
-            Some(way) => self.filter_by(alloc, way, hook, packet),
+            None => Ok(()),
+            Some(way) => self.filter_by(way, hook, packet, outcome),
         }
     }
 
     /// What becomes of a packet.
-    pub fn work(&self, alloc: Global, door: &Door, packet: &Packet) -> Result<Outcome, NoMemory>
-        ensures { IfOk result (λ outcome. outcome ≡ filters self.now.ways door.now packet.now) }
+    pub fn work(&self, door: &Door, packet: &Packet, outcome: &mut Outcome) -> Result<(), NoMemory>
+        requires { outcome.old ≡ nothing }
+        ensures { OnOk result (outcome.new ≡ filters self.now.ways door.now packet.now) }
     {
         match door {
-            Door::Hook(hook) => self.work_by(alloc, hook, packet),
-            Door::Wire => Ok(nothing(alloc)),
+            Door::Hook(hook) => self.work_by(hook, packet, outcome),
+            Door::Wire => Ok(()),
         }
     }
 }

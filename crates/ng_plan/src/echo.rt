@@ -1,18 +1,19 @@
 // ng_echo(4): sends each packet back.
-ghost use Rattle.std.specs.Prelude.{◌≡◌, IfOk};
+ghost use Rattle.std.specs.Prelude.{◌≡◌, OnOk};
 ghost use Rattle.ng_machine.specs.Echo.{echoes};
+ghost use Rattle.ng_machine.specs.Outcome.{nothing};
 
 use ng_base::{NoMemory, Packet};
-use ng_lookup::{nothing, send};
+use ng_lookup::send;
 use ng_machine::{Door, Outcome};
-use std::alloc::Global;
 
 /// What becomes of a packet at an echo.
-pub(crate) fn send_back(alloc: Global, door: &Door, packet: &Packet) -> Result<Outcome, NoMemory>
-    ensures { IfOk result (λ outcome. outcome ≡ echoes door.now packet.now) }
+pub(crate) fn send_back(door: &Door, packet: &Packet, outcome: &mut Outcome) -> Result<(), NoMemory>
+    requires { outcome.old ≡ nothing }
+    ensures { OnOk result (outcome.new ≡ echoes door.now packet.now) }
 {
     match door {
-        Door::Hook(hook) => send(alloc, hook, packet),
-        Door::Wire => Ok(nothing(alloc)),
+        Door::Hook(hook) => send(outcome, hook, packet),
+        Door::Wire => Ok(()),
     }
 }

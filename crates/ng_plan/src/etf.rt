@@ -1,17 +1,17 @@
 // ng_etf(4): sorts frames by their ethertypes.
-ghost use Rattle.std.specs.Prelude.{◌≡◌, ◌∷◌, ◌≤◌, [], not, length, IfOk};
+ghost use Rattle.std.specs.Prelude.{◌≡◌, ◌≤◌, not, length, IfOk, OnOk};
 ghost use Rattle.std.specs.List.{filter};
 ghost use Rattle.std.specs.Option.{option_copied};
 ghost use Rattle.std.specs.Str.{bytes_eq};
 ghost use Rattle.ng_machine.specs.Etf.{etf_filter_of, ethertype_of, goes_back, goes_down, goes_up, is_own, is_short, sorts, upward};
-ghost use Rattle.ng_machine.specs.Outcome.{sends_by};
+ghost use Rattle.ng_machine.specs.Outcome.{counts_only, nothing, sends_by};
 ghost use Rattle.ng_plan.specs.Without.{plan_without};
 
 use byteorder::{BigEndian, ByteOrder};
 use ng_base::{Errno, Name, NoMemory, Packet, Sequence};
 use ng_frame::MIN_FRAME_LEN;
-use ng_lookup::{Hooks, Table, downstream, fails, is_named, nomatch, nothing, send, send_by};
-use ng_machine::{Counts, Door, EtfWay, Outcome, Plan as Way};
+use ng_lookup::{Hooks, Table, downstream, is_named, nomatch, send, send_by};
+use ng_machine::{Door, EtfWay, Outcome, Plan as Way};
 use std::alloc::Global;
 
 /// The number of the counter `inFrames`.
@@ -52,15 +52,6 @@ fn is_own(hook: &Name, filter: Option<&EtfWay>) -> bool
     }
 }
 
-/// One more under a counter, of the hook of arrival.
-fn one_more(alloc: Global, hook: &Name, number: u64) -> Result<Counts, NoMemory>
-    ensures { IfOk result (λ counts. counts ≡ (hook.now, number, 1) ∷ []) }
-{
-    let mut counts = Sequence::new(alloc);
-    counts.push((*hook, number, 1))?;
-    Ok(counts)
-}
-
 /// The filters without those of a hook.
 fn filters_without(alloc: Global, filters: &[EtfWay], hook: &Name) -> Result<Vec<EtfWay>, NoMemory>
     ensures { IfOk result (λ kept. kept.items ≡ filter (λ f. not (bytes_eq f.hook hook.now)) filters.now) }
@@ -82,16 +73,16 @@ impl EtfPlan {
     }
 
     /// A packet goes out of `downstream`, where that is there, and is counted.
-    fn go_down(&self, alloc: Global, hook: &Name, frame: &Packet) -> Result<Outcome, NoMemory>
-        ensures { IfOk result (λ outcome. outcome ≡ goes_down self.now.hooks hook.now frame.now) }
+    fn go_down(&self, hook: &Name, frame: &Packet, outcome: &mut Outcome) -> Result<(), NoMemory>
+        requires { outcome.old ≡ nothing }
+        ensures { OnOk result (outcome.new ≡ goes_down self.now.hooks hook.now frame.now) }
     {
-        if !self.hooks.has(&downstream()) {
-            return Ok(nothing(alloc));
+        let out = downstream();
+        if !self.hooks.has(&out) {
+            return Ok(());
         }
-        Ok(Outcome {
-            counts: one_more(alloc, hook, OUT_FRAMES)?,
-            ..send(alloc, &downstream(), frame)?
-        })
+        send(outcome, &out, frame)?;
+        outcome.counts.push((*hook, OUT_FRAMES, 1))
     }
 
     /// The filter of a frame's ethertype.
@@ -102,68 +93,76 @@ impl EtfPlan {
         self.filters.find(u64::from(ethertype_of(frame)))
     }
 
-    /// A frame out of its filter's hook, and out of `nomatch` where there is none.
+    /// A frame out of its filter's hook, and out of `nomatch` where there is none; what was counted before stays counted.
     fn send_up(
         &self,
-        alloc: Global,
         filter: Option<&EtfWay>,
         frame: &Packet,
-    ) -> Result<Outcome, NoMemory>
-        ensures { IfOk result (λ outcome. outcome ≡ sends_by self.now.hooks (upward (option_copied filter.entry)) frame.now) }
+        outcome: &mut Outcome,
+    ) -> Result<(), NoMemory>
+        requires { outcome.old ≡ counts_only outcome.old.counts }
+        ensures { OnOk result (outcome.new
+            ≡ record (sends_by self.now.hooks (upward (option_copied filter.entry)) frame.now) { counts = outcome.old.counts }) }
     {
         match filter {
-            None => send_by(alloc, &self.hooks, &nomatch(), frame),
-            Some(filter) => send_by(alloc, &self.hooks, &filter.hook, frame),
+            None => send_by(outcome, &self.hooks, &nomatch(), frame),
+            Some(filter) => send_by(outcome, &self.hooks, &filter.hook, frame),
         }
     }
 
-    /// A packet that comes by `downstream`.
-    fn go_up(&self, alloc: Global, frame: &Packet) -> Result<Outcome, NoMemory>
-        ensures { IfOk result (λ outcome. outcome ≡ goes_up self.now.hooks self.now.filters frame.now) }
+    /// A packet that comes by `downstream`; what was counted before stays counted.
+    fn go_up(&self, frame: &Packet, outcome: &mut Outcome) -> Result<(), NoMemory>
+        requires { outcome.old ≡ counts_only outcome.old.counts }
+        ensures { OnOk result (outcome.new
+            ≡ record (goes_up self.now.hooks self.now.filters frame.now) { counts = outcome.old.counts }) }
     {
         if is_short(frame.bytes()) {
-            return Ok(fails(alloc, Errno::INVAL));
+            outcome.errno = Errno::INVAL;
+            return Ok(());
         }
-        self.send_up(alloc, self.filter_for(frame.bytes()), frame)
+        self.send_up(self.filter_for(frame.bytes()), frame, outcome)
     }
 
     /// A packet that comes by a hook beside `downstream` and `nomatch`.
-    fn go_back(&self, alloc: Global, hook: &Name, frame: &Packet) -> Result<Outcome, NoMemory>
-        ensures { IfOk result (λ outcome. outcome ≡ goes_back self.now.hooks self.now.filters hook.now frame.now) }
+    fn go_back(&self, hook: &Name, frame: &Packet, outcome: &mut Outcome) -> Result<(), NoMemory>
+        requires { outcome.old ≡ nothing }
+        ensures { OnOk result (outcome.new ≡ goes_back self.now.hooks self.now.filters hook.now frame.now) }
     {
         if is_short(frame.bytes()) {
-            return Ok(fails(alloc, Errno::INVAL));
+            outcome.errno = Errno::INVAL;
+            return Ok(());
         }
         if is_own(hook, self.filter_for(frame.bytes())) {
-            self.go_down(alloc, hook, frame)
-        } else {
-            Ok(fails(alloc, Errno::PERM))
+            return self.go_down(hook, frame, outcome);
         }
+        outcome.errno = Errno::PERM;
+        Ok(())
     }
 
     /// A packet that comes by a hook.
-    fn work_by(&self, alloc: Global, hook: &Name, frame: &Packet) -> Result<Outcome, NoMemory>
-        ensures { IfOk result (λ outcome. outcome ≡ sorts self.now.hooks self.now.filters (Door.Hook hook.now) frame.now) }
+    fn work_by(&self, hook: &Name, frame: &Packet, outcome: &mut Outcome) -> Result<(), NoMemory>
+        requires { outcome.old ≡ nothing }
+        ensures { OnOk result (outcome.new
+            ≡ sorts self.now.hooks self.now.filters (Door.Hook hook.now) frame.now) }
     {
         if is_named(hook, b"downstream") {
-            Ok(Outcome {
-                counts: one_more(alloc, hook, IN_FRAMES)?,
-                ..self.go_up(alloc, frame)?
-            })
+            outcome.counts.push((*hook, IN_FRAMES, 1))?;
+            self.go_up(frame, outcome)
         } else if is_named(hook, b"nomatch") {
-            self.go_down(alloc, hook, frame)
+            self.go_down(hook, frame, outcome)
         } else {
-            self.go_back(alloc, hook, frame)
+            self.go_back(hook, frame, outcome)
         }
     }
 
     /// What becomes of a packet.
-    pub fn work(&self, alloc: Global, door: &Door, frame: &Packet) -> Result<Outcome, NoMemory>
-        ensures { IfOk result (λ outcome. outcome ≡ sorts self.now.hooks self.now.filters door.now frame.now) }
+    pub fn work(&self, door: &Door, frame: &Packet, outcome: &mut Outcome) -> Result<(), NoMemory>
+        requires { outcome.old ≡ nothing }
+        ensures { OnOk result (outcome.new ≡ sorts self.now.hooks self.now.filters door.now frame.now) }
     {
         match door {
-            Door::Hook(hook) => self.work_by(alloc, hook, frame),
-            Door::Wire => Ok(nothing(alloc)),
+            Door::Hook(hook) => self.work_by(hook, frame, outcome),
+            Door::Wire => Ok(()),
         }
     }
 }

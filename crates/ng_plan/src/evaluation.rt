@@ -1,6 +1,7 @@
 // What becomes of a packet by a plan.
-ghost use Rattle.std.specs.Prelude.{◌≡◌, IfOk};
+ghost use Rattle.std.specs.Prelude.{◌≡◌, IfOk, OnOk};
 ghost use Rattle.ng_machine.specs.Case.{eval, goes_ways};
+ghost use Rattle.ng_machine.specs.Outcome.{nothing};
 
 use crate::echo::send_back;
 use crate::ether::pass;
@@ -18,18 +19,53 @@ use std::alloc::Global;
 
 /// What becomes of a packet at a tee or a split.
 fn go_ways(
-    alloc: Global,
     kind: Kind,
     hooks: &Hooks,
     door: &Door,
     packet: &Packet,
-) -> Result<Outcome, NoMemory>
-    ensures { IfOk result (λ outcome. outcome ≡ goes_ways kind hooks.now door.now packet.now) }
+    outcome: &mut Outcome,
+) -> Result<(), NoMemory>
+    requires { outcome.old ≡ nothing }
+    ensures { OnOk result (outcome.new ≡ goes_ways kind hooks.now door.now packet.now) }
 {
     match kind {
-        Kind::Tee => copy_through(alloc, hooks, door, packet),
-        Kind::Split => part(alloc, hooks, door, packet),
-        _ => Ok(nothing(alloc)),
+        Kind::Tee => copy_through(hooks, door, packet, outcome),
+        Kind::Split => part(hooks, door, packet, outcome),
+        _ => Ok(()),
+    }
+}
+
+/// What becomes of a packet that comes by a door, as `eval` says it, put into an outcome that has nothing yet, in the
+/// memory of its lists. A packet that is sent on as it came takes new memory only where such a list grows.
+///
+/// # Errors
+/// `NoMemory` where memory ran out, and for nothing else; the outcome may have a part of it then.
+pub fn eval_into(
+    alloc: Global,
+    plan: &Plan,
+    door: &Door,
+    packet: &Packet,
+    outcome: &mut Outcome,
+) -> Result<(), NoMemory>
+    requires { outcome.old ≡ nothing }
+    ensures { OnOk result (outcome.new ≡ eval plan.now door.now packet.now) }
+{
+    match plan.form() {
+        Form::OfHole => {
+            discard(door, packet, outcome);
+            Ok(())
+        }
+        Form::OfEcho => send_back(door, packet, outcome),
+        Form::OfHub(hooks) => fan_out(hooks.as_slice(), door, packet, outcome),
+        Form::ByHooks { kind, hooks } => go_ways(*kind, hooks, door, packet, outcome),
+        Form::OfVlan(vlan) => vlan.work(alloc, door, packet, outcome),
+        Form::OfPatch(patch) => patch.work(alloc, door, packet, outcome),
+        Form::OfBpf(bpf) => bpf.work(door, packet, outcome),
+        Form::OfEther(has_lower) => pass(*has_lower, door, packet, outcome),
+        Form::OfSocket => hand_over(door, packet, outcome),
+        Form::OfBridge(bridge) => bridge.work(door, packet, outcome),
+        Form::OfEtf(etf) => etf.work(door, packet, outcome),
+        Form::OfMacset(macset) => macset.work(door, packet, outcome),
     }
 }
 
@@ -41,18 +77,7 @@ fn go_ways(
 pub fn eval(alloc: Global, plan: &Plan, door: &Door, packet: &Packet) -> Result<Outcome, NoMemory>
     ensures { IfOk result (λ outcome. outcome ≡ eval plan.now door.now packet.now) }
 {
-    match plan.form() {
-        Form::OfHole => Ok(discard(alloc, door, packet)),
-        Form::OfEcho => send_back(alloc, door, packet),
-        Form::OfHub(hooks) => fan_out(alloc, hooks.as_slice(), door, packet),
-        Form::ByHooks { kind, hooks } => go_ways(alloc, *kind, hooks, door, packet),
-        Form::OfVlan(vlan) => vlan.work(alloc, door, packet),
-        Form::OfPatch(patch) => patch.work(alloc, door, packet),
-        Form::OfBpf(bpf) => bpf.work(alloc, door, packet),
-        Form::OfEther(has_lower) => pass(alloc, *has_lower, door, packet),
-        Form::OfSocket => hand_over(alloc, door, packet),
-        Form::OfBridge(bridge) => bridge.work(alloc, door, packet),
-        Form::OfEtf(etf) => etf.work(alloc, door, packet),
-        Form::OfMacset(macset) => macset.work(alloc, door, packet),
-    }
+    let mut outcome = nothing(alloc);
+    eval_into(alloc, plan, door, packet, &mut outcome)?;
+    Ok(outcome)
 }

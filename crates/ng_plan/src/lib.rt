@@ -20,7 +20,7 @@ mod split;
 mod tee;
 mod vlan;
 
-pub use evaluation::eval;
+pub use evaluation::{eval, eval_into};
 pub use ng_bridge_plan::BridgePlan;
 pub use ng_lookup::{
     all_hook, answers, count_packet, count_packets, downstream, fails, in_hook, known_hook, left,

@@ -1,13 +1,14 @@
 // macset: parts frames by whether their source is in a set of addresses. The type is this project's own.
-ghost use Rattle.std.specs.Prelude.{◌≡◌, ◌∷◌, [], IfOk};
+ghost use Rattle.std.specs.Prelude.{◌≡◌, IfOk, OnOk};
 ghost use Rattle.ng_machine.specs.Macset.{goes_by, has_address, picks, sifts};
+ghost use Rattle.ng_machine.specs.Outcome.{nothing};
 ghost use Rattle.ng_plan.specs.Without.{plan_without};
 
 use ng_base::{Errno, Name, NoMemory, Packet, Sequence};
 use ng_frame::MIN_FRAME_LEN;
 use ng_lookup::{
-    Hooks, Table, address_number, all_hook, fails, is_named, known_hook, nothing, other_hook,
-    same_address, send, send_by, source_of,
+    Hooks, Table, address_number, all_hook, is_named, known_hook, other_hook, same_address, send,
+    send_by, source_of,
 };
 use ng_machine::{Door, Outcome, Plan as Way};
 use std::alloc::Global;
@@ -52,47 +53,47 @@ impl MacsetPlan {
     /// A frame goes out of a hook, where that is there, and is counted.
     fn go_by(
         &self,
-        alloc: Global,
         out: &Name,
         number: u64,
         hook: &Name,
         frame: &Packet,
-    ) -> Result<Outcome, NoMemory>
-        ensures { IfOk result (λ outcome. outcome ≡ goes_by self.now.hooks out.now number hook.now frame.now) }
+        outcome: &mut Outcome,
+    ) -> Result<(), NoMemory>
+        requires { outcome.old ≡ nothing }
+        ensures { OnOk result (outcome.new ≡ goes_by self.now.hooks out.now number hook.now frame.now) }
     {
         if !self.hooks.has(out) {
-            return Ok(nothing(alloc));
+            return Ok(());
         }
-        let mut counts = Sequence::new(alloc);
-        counts.push((*hook, number, 1))?;
-        Ok(Outcome {
-            counts,
-            ..send(alloc, out, frame)?
-        })
+        send(outcome, out, frame)?;
+        outcome.counts.push((*hook, number, 1))
     }
 
     /// A packet that comes by `all`.
-    fn sift(&self, alloc: Global, hook: &Name, frame: &Packet) -> Result<Outcome, NoMemory>
-        ensures { IfOk result (λ outcome. outcome ≡ sifts self.now.hooks self.now.set hook.now frame.now) }
+    fn sift(&self, hook: &Name, frame: &Packet, outcome: &mut Outcome) -> Result<(), NoMemory>
+        requires { outcome.old ≡ nothing }
+        ensures { OnOk result (outcome.new ≡ sifts self.now.hooks self.now.set hook.now frame.now) }
     {
         if frame.bytes().len() < MIN_FRAME_LEN {
-            return Ok(fails(alloc, Errno::INVAL));
+            outcome.errno = Errno::INVAL;
+            return Ok(());
         }
         if has_address(&self.set, &source_of(frame.bytes())) {
-            self.go_by(alloc, &known_hook(), KNOWN_FRAMES, hook, frame)
+            self.go_by(&known_hook(), KNOWN_FRAMES, hook, frame, outcome)
         } else {
-            self.go_by(alloc, &other_hook(), OTHER_FRAMES, hook, frame)
+            self.go_by(&other_hook(), OTHER_FRAMES, hook, frame, outcome)
         }
     }
 
     /// What becomes of a packet.
-    pub fn work(&self, alloc: Global, door: &Door, frame: &Packet) -> Result<Outcome, NoMemory>
-        ensures { IfOk result (λ outcome. outcome ≡ picks self.now.hooks self.now.set door.now frame.now) }
+    pub fn work(&self, door: &Door, frame: &Packet, outcome: &mut Outcome) -> Result<(), NoMemory>
+        requires { outcome.old ≡ nothing }
+        ensures { OnOk result (outcome.new ≡ picks self.now.hooks self.now.set door.now frame.now) }
     {
         match door {
-            Door::Hook(hook) if is_named(hook, b"all") => self.sift(alloc, hook, frame),
-            Door::Hook(_) => send_by(alloc, &self.hooks, &all_hook(), frame),
-            Door::Wire => Ok(nothing(alloc)),
+            Door::Hook(hook) if is_named(hook, b"all") => self.sift(hook, frame, outcome),
+            Door::Hook(_) => send_by(outcome, &self.hooks, &all_hook(), frame),
+            Door::Wire => Ok(()),
         }
     }
 }

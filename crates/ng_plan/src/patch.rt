@@ -1,6 +1,7 @@
 // ng_patch(4): changes packets by arithmetic at places.
-ghost use Rattle.std.specs.Prelude.{◌≡◌, ◌-◌, ◌^◌, ◌<◌, ◌≤◌, nat_lt, true, IfOk, slice_index_or};
-ghost use Rattle.std.specs.List.{fold, list_all};
+ghost use Rattle.std.specs.Prelude.{◌≡◌, ◌-◌, ◌^◌, ◌<◌, ◌≤◌, nat_lt, true, IfOk, OnOk, slice_index_or};
+ghost use Rattle.std.specs.List.{fold};
+ghost use Rattle.ng_machine.specs.Outcome.{nothing};
 ghost use Rattle.ng_machine.specs.Patch.{is_op, modes, operation_result, patch_by, patches, shift_left, shift_right, width};
 ghost use Rattle.ng_plan.specs.Way.{IsWorkable};
 ghost use Rattle.ng_plan.specs.Without.{plan_without};
@@ -8,7 +9,7 @@ ghost use Rattle.ng_plan.specs.Without.{plan_without};
 use crate::operations::Operations;
 use byteorder::{BigEndian, ByteOrder};
 use ng_base::{Name, NoMemory, Packet, Sequence};
-use ng_lookup::{Hooks, in_hook, is_named, nothing, out_hook, send_by};
+use ng_lookup::{Hooks, in_hook, is_named, out_hook, send, send_by};
 use ng_machine::{Door, Outcome, PatchOp, Plan as Way};
 use std::alloc::Global;
 
@@ -128,29 +129,44 @@ impl PatchPlan {
     }
 
     /// A packet that comes by a hook.
-    fn work_by(&self, alloc: Global, hook: &Name, packet: &Packet) -> Result<Outcome, NoMemory>
-        ensures { IfOk result (λ outcome. outcome ≡ patches self.now.hooks self.now.ops (Door.Hook hook.now) packet.now) }
+    fn work_by(
+        &self,
+        alloc: Global,
+        hook: &Name,
+        packet: &Packet,
+        outcome: &mut Outcome,
+    ) -> Result<(), NoMemory>
+        requires { outcome.old ≡ nothing }
+        ensures { OnOk result (outcome.new ≡ patches self.now.hooks self.now.ops (Door.Hook hook.now) packet.now) }
     {
         if is_named(hook, b"out") {
-            return send_by(alloc, &self.hooks, &in_hook(), packet);
+            return send_by(outcome, &self.hooks, &in_hook(), packet);
         }
         let mut bytes = Vec::from_slice(alloc, packet.bytes())?;
         patch_all(bytes.as_mut_slice(), &self.ops);
         let patched = Packet::new(alloc, &bytes)?;
-        if self.hooks.has(&out_hook()) {
-            send_by(alloc, &self.hooks, &out_hook(), &patched)
+        let out = out_hook();
+        if self.hooks.has(&out) {
+            send(outcome, &out, &patched)
         } else {
-            send_by(alloc, &self.hooks, &in_hook(), &patched)
+            send_by(outcome, &self.hooks, &in_hook(), &patched)
         }
     }
 
     /// What becomes of a packet.
-    pub fn work(&self, alloc: Global, door: &Door, packet: &Packet) -> Result<Outcome, NoMemory>
-        ensures { IfOk result (λ outcome. outcome ≡ patches self.now.hooks self.now.ops door.now packet.now) }
+    pub fn work(
+        &self,
+        alloc: Global,
+        door: &Door,
+        packet: &Packet,
+        outcome: &mut Outcome,
+    ) -> Result<(), NoMemory>
+        requires { outcome.old ≡ nothing }
+        ensures { OnOk result (outcome.new ≡ patches self.now.hooks self.now.ops door.now packet.now) }
     {
         match door {
-            Door::Hook(hook) => self.work_by(alloc, hook, packet),
-            Door::Wire => Ok(nothing(alloc)),
+            Door::Hook(hook) => self.work_by(alloc, hook, packet, outcome),
+            Door::Wire => Ok(()),
         }
     }
 }

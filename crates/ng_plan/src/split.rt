@@ -1,35 +1,43 @@
 // ng_split(4): parts what comes and what goes.
-ghost use Rattle.std.specs.Prelude.{◌≡◌, IfOk};
+ghost use Rattle.std.specs.Prelude.{◌≡◌, OnOk};
+ghost use Rattle.ng_machine.specs.Outcome.{nothing};
 ghost use Rattle.ng_machine.specs.Split.{parts};
 
 use ng_base::{Errno, Name, NoMemory, Packet};
-use ng_lookup::{Hooks, fails, is_named, mixed, nothing, out_hook, send_by};
+use ng_lookup::{Hooks, is_named, mixed, out_hook, send_by};
 use ng_machine::{Door, Outcome};
-use std::alloc::Global;
 
-fn part_by(alloc: Global, hooks: &Hooks, hook: &Name, packet: &Packet) -> Result<Outcome, NoMemory>
-    ensures { IfOk result (λ outcome. outcome ≡ parts hooks.now (Door.Hook hook.now) packet.now) }
+fn part_by(
+    hooks: &Hooks,
+    hook: &Name,
+    packet: &Packet,
+    outcome: &mut Outcome,
+) -> Result<(), NoMemory>
+    requires { outcome.old ≡ nothing }
+    ensures { OnOk result (outcome.new ≡ parts hooks.now (Door.Hook hook.now) packet.now) }
 {
     if is_named(hook, b"in") {
-        send_by(alloc, hooks, &mixed(), packet)
+        send_by(outcome, hooks, &mixed(), packet)
     } else if is_named(hook, b"mixed") {
-        send_by(alloc, hooks, &out_hook(), packet)
+        send_by(outcome, hooks, &out_hook(), packet)
     } else {
-        Ok(fails(alloc, Errno::INVAL))
+        outcome.errno = Errno::INVAL;
+        Ok(())
     }
 }
 
 /// What becomes of a packet at a split.
 pub(crate) fn part(
-    alloc: Global,
     hooks: &Hooks,
     door: &Door,
     packet: &Packet,
-) -> Result<Outcome, NoMemory>
-    ensures { IfOk result (λ outcome. outcome ≡ parts hooks.now door.now packet.now) }
+    outcome: &mut Outcome,
+) -> Result<(), NoMemory>
+    requires { outcome.old ≡ nothing }
+    ensures { OnOk result (outcome.new ≡ parts hooks.now door.now packet.now) }
 {
     match door {
-        Door::Hook(hook) => part_by(alloc, hooks, hook, packet),
-        Door::Wire => Ok(nothing(alloc)),
+        Door::Hook(hook) => part_by(hooks, hook, packet, outcome),
+        Door::Wire => Ok(()),
     }
 }

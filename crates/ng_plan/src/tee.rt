@@ -1,87 +1,90 @@
 // ng_tee(4): passes packets between two hooks, and copies them to two more.
-ghost use Rattle.std.specs.Prelude.{◌≡◌, ◌++◌, IfOk};
+ghost use Rattle.std.specs.Prelude.{◌≡◌, ◌∷◌, ◌++◌, [], length, OnOk};
 ghost use Rattle.std.specs.List.{filter};
 ghost use Rattle.ng_base.specs.Names.{has_name};
-ghost use Rattle.ng_machine.specs.Counters.{counts_packet, counts_packets};
-ghost use Rattle.ng_machine.specs.Tee.{copies, onward, tees};
+ghost use Rattle.ng_machine.specs.Counters.{counts_packet};
+ghost use Rattle.ng_machine.specs.Outcome.{nothing};
+ghost use Rattle.ng_machine.specs.Tee.{copies, tees};
 
-use ng_base::{Name, NoMemory, Packet, Sequence};
-use ng_lookup::{
-    Hooks, count_packet, count_packets, is_named, left, left2right, nothing, right, right2left,
-    send_to,
-};
-use ng_machine::{Counts, Door, Outcome};
-use std::alloc::Global;
+use ng_base::{Name, NoMemory, Packet};
+use ng_lookup::{Hooks, count_packet, is_named, left, left2right, right, right2left, send};
+use ng_machine::{Door, Outcome};
 
-/// Where a packet by a hook goes, as far as the hooks are there.
-fn onward(alloc: Global, hook: &Name) -> Result<Vec<Name>, NoMemory>
-    ensures { IfOk result (λ names. names.items ≡ onward hook.now) }
+/// The numbers of the counters of octets and of frames that come by a hook and that go out of it.
+const IN_OCTETS: u64 = 0;
+
+const IN_FRAMES: u64 = 1;
+
+const OUT_OCTETS: u64 = 2;
+
+const OUT_FRAMES: u64 = 3;
+
+/// A packet out of a hook, where it is counted, behind what an outcome has already.
+fn send_and_count(hook: &Name, packet: &Packet, outcome: &mut Outcome) -> Result<(), NoMemory>
+    ensures { OnOk result (outcome.new ≡ record outcome.old {
+      sends = outcome.old.sends ++ (hook.now, packet.now) ∷ [];
+      counts = outcome.old.counts ++ counts_packet 3 2 hook.now (length packet.now);
+    }) }
 {
-    let mut names = Vec::new(alloc);
-    if is_named(hook, b"right") {
-        names.push(right2left())?;
-        names.push(left())?;
-    } else if is_named(hook, b"left") {
-        names.push(left2right())?;
-        names.push(right())?;
-    } else if is_named(hook, b"right2left") {
-        names.push(right())?;
-    } else {
-        names.push(left())?;
-    }
-    Ok(names)
+    send(outcome, hook, packet)?;
+    let len = packet.bytes().len() as u64;
+    count_packet(&mut outcome.counts, OUT_FRAMES, OUT_OCTETS, hook, len)
 }
 
-fn keep_those_there(names: &mut Vec<Name>, hooks: &Hooks)
-    ensures { names.new.items ≡ filter (has_name hooks.now) names.old.items }
-{
-    names.retain(|name| hooks.has(name));
-}
-
-/// What is counted of a packet that comes by a hook and goes out of others.
-fn count(alloc: Global, hook: &Name, others: &[Name], len: u64) -> Result<Counts, NoMemory>
-    ensures { IfOk result (λ counts. counts ≡ counts_packet 1 0 hook.now len ++ counts_packets 3 2 others.now len) }
-{
-    let mut counts = Sequence::new(alloc);
-    count_packet(&mut counts, 1, 0, hook, len)?;
-    count_packets(&mut counts, 3, 2, others, len)?;
-    Ok(counts)
-}
-
+/// A packet that comes by a hook, out of those of some others that are there.
 fn copy_to(
-    alloc: Global,
+    hooks: &Hooks,
     hook: &Name,
     others: &[Name],
     packet: &Packet,
-) -> Result<Outcome, NoMemory>
-    ensures { IfOk result (λ outcome. outcome ≡ copies hook.now others.now packet.now) }
+    outcome: &mut Outcome,
+) -> Result<(), NoMemory>
+    requires { outcome.old ≡ nothing }
+    ensures { OnOk result (outcome.new ≡ copies hook.now (filter (has_name hooks.now) others.now) packet.now) }
 {
-    Ok(Outcome {
-        sends: send_to(alloc, others, packet)?,
-        counts: count(alloc, hook, others, packet.bytes().len() as u64)?,
-        ..nothing(alloc)
-    })
+    let len = packet.bytes().len() as u64;
+    count_packet(&mut outcome.counts, IN_FRAMES, IN_OCTETS, hook, len)?;
+    for other in others {
+        if hooks.has(other) {
+            send_and_count(other, packet, outcome)?;
+        }
+    }
+    Ok(())
 }
 
-fn tee_by(alloc: Global, hooks: &Hooks, hook: &Name, packet: &Packet) -> Result<Outcome, NoMemory>
-    ensures { IfOk result (λ outcome. outcome ≡ copies hook.now (filter (has_name hooks.now) (onward hook.now)) packet.now) }
+/// A packet that comes by a hook, out of the hooks that it is passed and copied to.
+fn tee_by(
+    hooks: &Hooks,
+    hook: &Name,
+    packet: &Packet,
+    outcome: &mut Outcome,
+) -> Result<(), NoMemory>
+    requires { outcome.old ≡ nothing }
+    ensures { OnOk result (outcome.new ≡ tees hooks.now (Door.Hook hook.now) packet.now) }
 {
-    let mut others = onward(alloc, hook)?;
-    keep_those_there(&mut others, hooks);
-    copy_to(alloc, hook, &others, packet)
+    if is_named(hook, b"right") {
+        copy_to(hooks, hook, &[right2left(), left()], packet, outcome)
+    } else if is_named(hook, b"left") {
+        copy_to(hooks, hook, &[left2right(), right()], packet, outcome)
+    } else if is_named(hook, b"right2left") {
+        copy_to(hooks, hook, &[right()], packet, outcome)
+    } else {
+        copy_to(hooks, hook, &[left()], packet, outcome)
+    }
 }
 
 /// What becomes of a packet at a tee.
 pub(crate) fn copy_through(
-    alloc: Global,
     hooks: &Hooks,
     door: &Door,
     packet: &Packet,
-) -> Result<Outcome, NoMemory>
-    ensures { IfOk result (λ outcome. outcome ≡ tees hooks.now door.now packet.now) }
+    outcome: &mut Outcome,
+) -> Result<(), NoMemory>
+    requires { outcome.old ≡ nothing }
+    ensures { OnOk result (outcome.new ≡ tees hooks.now door.now packet.now) }
 {
     match door {
-        Door::Hook(hook) => tee_by(alloc, hooks, hook, packet),
-        Door::Wire => Ok(nothing(alloc)),
+        Door::Hook(hook) => tee_by(hooks, hook, packet, outcome),
+        Door::Wire => Ok(()),
     }
 }

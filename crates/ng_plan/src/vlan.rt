@@ -1,14 +1,15 @@
 // ng_vlan(4): parts the frames of VLANs by their tags, and tags them on the way back.
-ghost use Rattle.std.specs.Prelude.{◌≡◌, IfOk, Some};
+ghost use Rattle.std.specs.Prelude.{◌≡◌, IfOk, OnOk, Some};
 ghost use Rattle.std.specs.Int.{to_be_bytes, w16};
 ghost use Rattle.std.specs.Option.{option_copied};
 ghost use Rattle.ng_frame.specs.Frame.{IsTagged, tag_of};
-ghost use Rattle.ng_machine.specs.Vlan.{by_tag, control_of, into_filter, out_of_filter, tags};
+ghost use Rattle.ng_machine.specs.Outcome.{nothing};
+ghost use Rattle.ng_machine.specs.Vlan.{by_tag, control_of, filter_of_hook, into_filter, out_of_filter, tags};
 ghost use Rattle.ng_plan.specs.Without.{plan_without};
 
 use ng_base::{Errno, Name, NoMemory, Packet};
 use ng_frame::{MAX_UNTAGGED_LEN, MIN_FRAME_LEN, untag, with_tag, without_tag};
-use ng_lookup::{Filters, Hooks, downstream, fails, is_named, nomatch, nothing, send_by};
+use ng_lookup::{Filters, Hooks, downstream, is_named, nomatch, send_by};
 use ng_machine::{Door, Outcome, Plan as Way, VlanWay};
 use std::alloc::Global;
 
@@ -49,28 +50,38 @@ impl VlanPlan {
         alloc: Global,
         filter: Option<&VlanWay>,
         frame: &Packet,
-    ) -> Result<Outcome, NoMemory>
-        requires { IsTagged self.now.kind frame.now }
-        ensures { IfOk result (λ outcome. outcome ≡ out_of_filter self.now.hooks (option_copied filter.entry) frame.now) }
+        outcome: &mut Outcome,
+    ) -> Result<(), NoMemory>
+        requires tagged { IsTagged self.now.kind frame.now }
+        requires blank { outcome.old ≡ nothing }
+        ensures { OnOk result (outcome.new ≡ out_of_filter self.now.hooks (option_copied filter.entry) frame.now) }
     {
         match filter {
-            None => send_by(alloc, &self.hooks, &nomatch(), frame),
+            None => send_by(outcome, &self.hooks, &nomatch(), frame),
             Some(filter) => {
                 let plain = without_tag(alloc, frame.bytes(), self.kind).map_err(|_| NoMemory)?;
                 let untagged = Packet::new(alloc, &plain)?;
-                send_by(alloc, &self.hooks, &filter.hook, &untagged)
+                send_by(outcome, &self.hooks, &filter.hook, &untagged)
             }
         }
     }
 
     /// A packet that comes by `downstream`.
-    fn part_by_tag(&self, alloc: Global, frame: &Packet) -> Result<Outcome, NoMemory>
-        ensures { IfOk result (λ outcome.
-            outcome ≡ by_tag self.now.hooks self.now.filters (tag_of self.now.kind frame.now) frame.now) }
+    fn part_by_tag(
+        &self,
+        alloc: Global,
+        frame: &Packet,
+        outcome: &mut Outcome,
+    ) -> Result<(), NoMemory>
+        requires { outcome.old ≡ nothing }
+        ensures { OnOk result (outcome.new
+            ≡ by_tag self.now.hooks self.now.filters (tag_of self.now.kind frame.now) frame.now) }
     {
         match untag(frame.bytes(), self.kind) {
-            None => send_by(alloc, &self.hooks, &nomatch(), frame),
-            Some((number, _)) => self.send_untagged(alloc, self.filters.of_number(number), frame),
+            None => send_by(outcome, &self.hooks, &nomatch(), frame),
+            Some((number, _)) => {
+                self.send_untagged(alloc, self.filters.of_number(number), frame, outcome)
+            }
         }
     }
 
@@ -80,36 +91,65 @@ impl VlanPlan {
         alloc: Global,
         filter: &VlanWay,
         frame: &Packet,
-    ) -> Result<Outcome, NoMemory>
-        ensures { IfOk result (λ outcome. outcome ≡ into_filter self.now.hooks self.now.kind (Some filter.now) frame.now) }
+        outcome: &mut Outcome,
+    ) -> Result<(), NoMemory>
+        requires { outcome.old ≡ nothing }
+        ensures { OnOk result (outcome.new ≡ into_filter self.now.hooks self.now.kind (Some filter.now) frame.now) }
     {
         let len = frame.bytes().len();
         if len < MIN_FRAME_LEN {
-            return Ok(fails(alloc, Errno::INVAL));
+            outcome.errno = Errno::INVAL;
+            return Ok(());
         }
         if len > MAX_UNTAGGED_LEN {
-            return Ok(fails(alloc, Errno::MSGSIZE));
+            outcome.errno = Errno::MSGSIZE;
+            return Ok(());
         }
         let control = control_of(filter);
         let bytes = with_tag(alloc, frame.bytes(), self.kind, control).map_err(|_| NoMemory)?;
         let tagged = Packet::new(alloc, &bytes)?;
-        send_by(alloc, &self.hooks, &downstream(), &tagged)
+        send_by(outcome, &self.hooks, &downstream(), &tagged)
+    }
+
+    /// A packet that comes by a filter's hook, or by one that has none.
+    fn tag_by(
+        &self,
+        alloc: Global,
+        hook: &Name,
+        frame: &Packet,
+        outcome: &mut Outcome,
+    ) -> Result<(), NoMemory>
+        requires { outcome.old ≡ nothing }
+        ensures { OnOk result (outcome.new
+            ≡ into_filter self.now.hooks self.now.kind (filter_of_hook hook.now self.now.filters) frame.now) }
+    {
+        match self.filters.of_hook(hook) {
+            None => {
+                outcome.errno = Errno::NOTCONN;
+                Ok(())
+            }
+            Some(filter) => self.send_tagged(alloc, filter, frame, outcome),
+        }
     }
 
     /// A packet that comes by a hook.
-    fn work_by(&self, alloc: Global, hook: &Name, frame: &Packet) -> Result<Outcome, NoMemory>
-        ensures { IfOk result (λ outcome.
-            outcome ≡ tags self.now.hooks self.now.kind self.now.filters (Door.Hook hook.now) frame.now) }
+    fn work_by(
+        &self,
+        alloc: Global,
+        hook: &Name,
+        frame: &Packet,
+        outcome: &mut Outcome,
+    ) -> Result<(), NoMemory>
+        requires { outcome.old ≡ nothing }
+        ensures { OnOk result (outcome.new
+            ≡ tags self.now.hooks self.now.kind self.now.filters (Door.Hook hook.now) frame.now) }
     {
         if is_named(hook, b"downstream") {
-            self.part_by_tag(alloc, frame)
+            self.part_by_tag(alloc, frame, outcome)
         } else if is_named(hook, b"nomatch") {
-            send_by(alloc, &self.hooks, &downstream(), frame)
+            send_by(outcome, &self.hooks, &downstream(), frame)
         } else {
-            match self.filters.of_hook(hook) {
-                None => Ok(fails(alloc, Errno::NOTCONN)),
-                Some(filter) => self.send_tagged(alloc, filter, frame),
-            }
+            self.tag_by(alloc, hook, frame, outcome)
         }
     }
 
@@ -119,13 +159,15 @@ impl VlanPlan {
         alloc: Global,
         door: &Door,
         frame: &Packet,
-    ) -> Result<Outcome, NoMemory>
-        ensures { IfOk result (λ outcome.
-            outcome ≡ tags self.now.hooks self.now.kind self.now.filters door.now frame.now) }
+        outcome: &mut Outcome,
+    ) -> Result<(), NoMemory>
+        requires { outcome.old ≡ nothing }
+        ensures { OnOk result (outcome.new
+            ≡ tags self.now.hooks self.now.kind self.now.filters door.now frame.now) }
     {
         match door {
-            Door::Hook(hook) => self.work_by(alloc, hook, frame),
-            Door::Wire => Ok(nothing(alloc)),
+            Door::Hook(hook) => self.work_by(alloc, hook, frame, outcome),
+            Door::Wire => Ok(()),
         }
     }
 }

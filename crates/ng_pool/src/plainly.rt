@@ -1,6 +1,7 @@
 // A run of one seat that does one thing after another.
 ghost use Rattle.std.specs.Prelude.{◌≡◌, ◌<◌, [], List, length, true, false, None, IfOk, OnOk, OnErr};
 ghost use Rattle.ng_machine.specs.declared.input.Input.{Input as TheInput};
+ghost use Rattle.ng_machine.specs.Outcome.{nothing};
 ghost use Rattle.ng_pool.specs.Going.{Going, to_do};
 ghost use Rattle.ng_pool.specs.Plainly.{WentPlainly};
 ghost use Rattle.ng_seats.specs.CoreStory.{story};
@@ -11,26 +12,34 @@ ghost use Rattle.ng_story.specs.Story.{AreFitFor, Story, has_ended, has_failed, 
 use crate::serving::{give_up, know_story, serve_next};
 use crate::unfed::Unfed;
 use ng_base::NoMemory;
-use ng_machine::Input;
+use ng_machine::{Input, Outcome};
 use ng_node::Node;
+use ng_plan::nothing;
 use ng_seats::Core;
 use std::alloc::Global;
 
 // One thing: an item is taken and applied, or where none may be taken the next input is fed. False where there is neither.
-fn go_on<B: Node>(alloc: Global, core: &mut Core<B>, unfed: &mut Unfed) -> Result<bool, NoMemory>
+fn go_on<B: Node>(
+    alloc: Global,
+    core: &mut Core<B>,
+    unfed: &mut Unfed,
+    outcome: &mut Outcome,
+) -> Result<bool, NoMemory>
     requires running { has_ended (story core.old) ≡ false }
     requires idle { (run_state_of (story core.old)).taken ≡ [] }
     requires fits { AreFitFor (story core.old) unfed.old }
+    requires blank { outcome.old ≡ nothing }
     ensures going { (start : Story) (inputs : List TheInput) → Going start inputs (story core.old) unfed.old → OnOk result (Going start inputs (story core.new) unfed.new) }
     ensures running { OnOk result (has_ended (story core.new) ≡ false) }
     ensures idle { OnOk result ((run_state_of (story core.new)).taken ≡ []) }
     ensures fits { OnOk result (AreFitFor (story core.new) unfed.new) }
+    ensures blank { OnOk result (outcome.new ≡ nothing) }
     ensures less { IfOk result (λ more. more ≡ true → to_do (story core.new) unfed.new < to_do (story core.old) unfed.old) }
     ensures done { IfOk result (λ more. more ≡ false → close_refusal (story core.new) (length unfed.new) ≡ None) }
     ensures others { Others 0 (story core.old) (story core.new) }
 {
     know_story(core);
-    if serve_next(alloc, core)? {
+    if serve_next(alloc, core, outcome)? {
         know_story(core);
         return Ok(true);
     }
@@ -43,10 +52,12 @@ fn go_to_the_end<B: Node>(
     alloc: Global,
     core: &mut Core<B>,
     unfed: &mut Unfed,
+    outcome: &mut Outcome,
 ) -> Result<(), NoMemory>
     requires running { has_ended (story core.old) ≡ false }
     requires idle { (run_state_of (story core.old)).taken ≡ [] }
     requires fits { AreFitFor (story core.old) unfed.old }
+    requires blank { outcome.old ≡ nothing }
     ensures going { (start : Story) (inputs : List TheInput) → Going start inputs (story core.old) unfed.old → OnOk result (Going start inputs (story core.new) unfed.new) }
     ensures running { OnOk result (has_ended (story core.new) ≡ false) }
     ensures idle { OnOk result ((run_state_of (story core.new)).taken ≡ []) }
@@ -55,7 +66,7 @@ fn go_to_the_end<B: Node>(
 {
     know_story(core);
     loop {
-        if !go_on(alloc, core, unfed)? {
+        if !go_on(alloc, core, unfed, outcome)? {
             return Ok(());
         }
     }
@@ -89,7 +100,8 @@ pub fn plain<B: Node>(alloc: Global, core: &mut Core<B>, inputs: Vec<Input>) -> 
 {
     know_story(core);
     let mut unfed = Unfed::new(inputs);
-    match go_to_the_end(alloc, core, &mut unfed) {
+    let mut outcome = nothing(alloc);
+    match go_to_the_end(alloc, core, &mut unfed, &mut outcome) {
         Ok(()) => {
             know_story(core);
             close(core, &unfed);

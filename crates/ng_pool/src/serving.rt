@@ -3,6 +3,7 @@ ghost use Rattle.std.specs.Prelude.{◌≡◌, ◌<◌, true, false, IfOk, OnOk,
 ghost use Rattle.ng_base.specs.declared.event.Event.TheVariants.{Apply};
 ghost use Rattle.ng_machine.specs.Desk.{Idle};
 ghost use Rattle.ng_machine.specs.KnownRun.{AreFit};
+ghost use Rattle.ng_machine.specs.Outcome.{nothing};
 ghost use Rattle.ng_pool.specs.Going.{IsServed};
 ghost use Rattle.ng_seats.specs.CoreStory.{setting_of, story};
 ghost use Rattle.ng_story.specs.Desks.{Others, story_job};
@@ -12,6 +13,7 @@ ghost use Rattle.ng_world.specs.Handed.{item_of, job_with};
 
 use crate::work;
 use ng_base::NoMemory;
+use ng_machine::Outcome;
 use ng_node::Node;
 use ng_seats::Core;
 use ng_world::Work;
@@ -54,20 +56,27 @@ pub(crate) fn finish<B: Node>(
     Ok(())
 }
 
-/// Takes the least item that may be taken, as the seat 0, and applies it at once; false where there is none.
+/// Takes the least item that may be taken, as the seat 0, and applies it at once; false where there is none. What plans make of
+/// packets goes through `outcome`, which has nothing before and after.
 ///
 /// # Errors
 /// `NoMemory` where memory ran out, and for nothing else.
-pub(crate) fn serve_next<B: Node>(alloc: Global, core: &mut Core<B>) -> Result<bool, NoMemory>
+pub(crate) fn serve_next<B: Node>(
+    alloc: Global,
+    core: &mut Core<B>,
+    outcome: &mut Outcome,
+) -> Result<bool, NoMemory>
     requires running { has_ended (story core.old) ≡ false }
     requires idle { story_job (story core.old) 0 ≡ Idle }
+    requires blank { outcome.old ≡ nothing }
     ensures served { IfOk result (λ served. served ≡ true → IsServed (story core.old) (story core.new)) }
     ensures none { IfOk result (λ served. served ≡ false → (core.new ≡ core.old) × NothingToTake (story core.old)) }
     ensures seats { core.new.seats ≡ core.old.seats }
+    ensures blank { OnOk result (outcome.new ≡ nothing) }
     ensures others { Others 0 (story core.old) (story core.new) }
 {
     know_story(core);
-    if core.serve(alloc, 0)? {
+    if core.serve(alloc, 0, outcome)? {
         return Ok(true);
     }
     let Some(taken) = core.take(0)? else {

@@ -3,6 +3,7 @@ pub mod NodesChanged
 pub mod Ports
 pub mod Exits
 pub mod Sending
+pub mod Fronts
 pub mod Changes
 pub mod Readings
 pub mod LeavingRoom

@@ -50,7 +50,7 @@ stands_changed s t a at node f S here kind home graph pending told ports =
     }
 
 -- the node after it
-changed_here : (nodes : List (Option NodeRecord)) (n : ℕ) (f : NodeRecord → NodeRecord) → get_or (set nodes n (option_map f (get_or nodes n None))) n None ≡ option_map f (get_or nodes n None)
+pub changed_here : (nodes : List (Option NodeRecord)) (n : ℕ) (f : NodeRecord → NodeRecord) → get_or (set nodes n (option_map f (get_or nodes n None))) n None ≡ option_map f (get_or nodes n None)
 changed_here [] n f = refl
 changed_here (x ∷ nodes) zero f = refl
 changed_here (x ∷ nodes) (suc n) f = changed_here nodes n f

@@ -1,12 +1,13 @@
 -- Room for packets that are sent.
 use Rattle.std.proofs.Common.{◌≡◌, ℕ, zero, suc, ◌+◌, ◌<◌, ◌≤◌, List, [], ◌∷◌, length, get_or, Bool, true, false, cond, refl, sym, ap, ◌∙◌, subst, arith}
-use Rattle.std.specs.Prelude.{take}
+use Rattle.std.proofs.lemmas.List.{reverse-append}
+use Rattle.std.specs.Prelude.{◌++◌, reverse, take}
 use Rattle.std.specs.declared.option.Option.{Option}
 use Rattle.ng_machine.specs.World.{NodeRecord, hook_at}
 use Rattle.ng_tie.specs.TieLaws.{one}
 use Rattle.ng_world.specs.Room.{goes_to, wants}
 
-one_cond : (b : Bool) → cond b 1 0 ≡ one b
+pub one_cond : (b : Bool) → cond b 1 0 ≡ one b
 one_cond true = refl
 one_cond false = refl
 
@@ -32,3 +33,13 @@ pub room_next : (node : Option NodeRecord) (xs : List (List ℕ × List ℕ)) (i
 room_next node xs i n x first before after lt e room more =
     let next = wants_next node xs i n x lt e in
     subst (λ (k : ℕ). first + wants node (take k xs) n ≤ after) (let f : suc i ≡ i + 1 = omega arith in f) (omega arith)
+
+-- ONE PACKET AFTER ANOTHER
+
+-- what is taken from the end of a list that lies the other way round is the first
+pub popped_first : {A : Type 0} (all rest : List A) (x : A) → all ≡ rest ++ x ∷ [] → reverse all ≡ x ∷ reverse rest
+popped_first {A} all rest x is = ap (λ (l : List A). reverse l) is ∙ reverse-append rest (x ∷ [])
+
+pub none_left : {A : Type 0} (xs : List A) → length xs ≡ 0 → xs ≡ []
+none_left [] e = refl
+none_left (x ∷ xs) e = absurd (omega arith)

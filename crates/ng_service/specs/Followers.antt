@@ -1,5 +1,5 @@
 -- What follows of an item: one that waits by itself, as an answer or what a bridge is to learn, and packets that are sent.
-use Rattle.std.specs.Prelude.{ℕ, ◌+◌, ◌==◌, Bool, true, false, not, nat_lt, List, length, [], ◌∷◌, ◌++◌, Option, Some, None}
+use Rattle.std.specs.Prelude.{ℕ, ◌==◌, Bool, true, false, not, nat_lt, List, length, [], ◌∷◌, ◌++◌, Option, Some, None}
 use Rattle.ng_base.specs.declared.errno.Errno.{Errno}
 use Rattle.ng_base.specs.declared.ids.NodeId.{NodeId}
 use Rattle.ng_machine.specs.declared.body.Body.{Body}
@@ -10,9 +10,7 @@ use Rattle.ng_machine.specs.declared.outcome.Outcome.{Outcome}
 use Rattle.ng_machine.specs.Change.{Change, Accepts}
 use Rattle.ng_machine.specs.Effect.{answered, counts_unless, exits, is_fine, learns, posts}
 use Rattle.ng_machine.specs.Retire.{refuse}
-use Rattle.ng_machine.specs.World.{NodeRecord}
 use Rattle.ng_tie.specs.TieLaws.{one}
-use Rattle.ng_world.specs.Room.{wants}
 use Rattle.ng_service.specs.declared.follower.Follower.{Follower}
 use Rattle.ng_service.specs.Leaving.{arrival_hook, name_or_empty}
 
@@ -53,14 +51,6 @@ one_at (Some to) n = one (n == to.0)
 abbrev pub target_of : Option Follower → Option NodeId
 target_of None = None
 target_of (Some x) = Some x.to
-
--- how many items this node gets
-abbrev pub needs : Option NodeRecord → Option NodeId → List (List ℕ × List ℕ) → ℕ → ℕ
-needs node to sends n = one_at to n + wants node sends n
-
--- what an outcome comes to once its node's part has changed: packets leave, a refusal is counted, and then what follows
-abbrev pub delivered : List ℕ → Outcome → Option Follower → List Change
-delivered hook out also = exits hook out.leaves ++ (counts_unless (is_fine out.errno) ++ (accepts_of also ++ posts out.sends))
 
 -- a message is refused with an error, which is told, and then nothing else follows
 abbrev pub is_refused : Body → Errno → Bool

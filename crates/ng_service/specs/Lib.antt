@@ -1,5 +1,6 @@
 pub mod Ports
 pub mod Room
 pub mod Leaving
+pub mod Front
 pub mod Followers
 pub mod Work

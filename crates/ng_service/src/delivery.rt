@@ -1,26 +1,27 @@
 // What an outcome brings about beyond its node.
-ghost use Rattle.std.specs.Prelude.{◌≡◌, ℕ, ◌+◌, length};
+ghost use Rattle.std.specs.Prelude.{◌≡◌, ℕ, ◌+◌, ◌≤◌, true, false, length};
 ghost use Rattle.ng_base.specs.declared.ids.NodeId.{NodeId as NodeNumber};
 ghost use Rattle.ng_machine.specs.Change.{change_all};
 ghost use Rattle.ng_machine.specs.Effect.{posts};
 ghost use Rattle.ng_machine.specs.Run.{RunState};
-ghost use Rattle.ng_machine.specs.World.{node_in};
 ghost use Rattle.ng_pending.specs.Holds.{in_world};
 ghost use Rattle.ng_pending.specs.Room.{HasRoom, Spends};
 ghost use Rattle.ng_tally.specs.Tally.{HasNumbers};
-ghost use Rattle.ng_world.specs.Room.{wants};
 ghost use Rattle.ng_world.specs.Stands.{IsStanding, Stands};
-ghost use Rattle.ng_service.specs.Followers.{accepts_of, delivered, needs, one_at, target_of};
-ghost use Rattle.ng_service.specs.Leaving.{AllMayLeaveBy, name_or_empty};
+ghost use Rattle.ng_service.specs.Followers.{accepts_of, followed_by, follows_if, is_short, one_at, target_by, target_of};
+ghost use Rattle.ng_service.specs.Front.{HasFront};
+ghost use Rattle.ng_service.specs.Leaving.{AllMayLeaveBy, arrival_hook};
 ghost use Rattle.ng_service.specs.Room.{HasRoomToLeave};
 
-use crate::follower::Follower;
-use crate::leaving::leave_all;
-use ng_base::{Name, NodeId, Stamp};
-use ng_machine::{Outcome, Sends};
+use crate::emptying::take_backwards;
+use crate::follower::{Follower, follower_of};
+use crate::leaving::leave_any;
+use ng_base::{NodeId, Sequence, Stamp};
+use ng_machine::{Item, Outcome, Sends};
 use ng_node::Node;
 use ng_step::accept_at;
 use ng_world::State;
+use std::alloc::Global;
 
 // An item is accepted, where there is one and its node is there.
 fn follow<B: Node>(state: &mut State<B>, also: Option<Follower>, stamp: Stamp)
@@ -31,6 +32,7 @@ fn follow<B: Node>(state: &mut State<B>, also: Option<Follower>, stamp: Stamp)
         → Stands state.new (in_world a (change_all at stamp a.world (accepts_of also))) }
     ensures spares { Spends (one_at (target_of also)) state.old.pending state.new.pending }
     ensures lists { length state.new.pending.queues.lists ≡ length state.old.pending.queues.lists }
+    ensures frames { state.old.pending.tally.frames ≤ state.new.pending.tally.frames }
     ensures graph { state.new.graph ≡ state.old.graph }
     ensures numbers { (k : ℕ) → HasNumbers (k + 1) state.old.pending.tally → HasNumbers k state.new.pending.tally }
 {
@@ -39,46 +41,67 @@ fn follow<B: Node>(state: &mut State<B>, also: Option<Follower>, stamp: Stamp)
     }
 }
 
-// Packets are sent out of hooks of a node, in order. A hub sends by its hooks in their order, but for one of them.
-fn post_all<B: Node>(state: &mut State<B>, from: NodeId, sends: Sends, stamp: Stamp)
+// What follows of an item and waits by itself is accepted, where there is such and its node is there.
+fn follow_item<B: Node>(state: &mut State<B>, item: &Item, outcome: &mut Outcome)
     requires standing { IsStanding state.old }
-    requires room { HasRoom (wants (node_in state.old.graph.nodes from) sends) state.old.pending }
-    requires numbers { HasNumbers (length sends) state.old.pending.tally }
-    ensures { (a : RunState) → Stands state.old a → Stands state.new (in_world a (change_all from stamp a.world (posts sends))) }
+    requires short { is_short outcome.old.answer ≡ true }
+    requires room { HasRoom (one_at (target_by item.now.to item.now.body outcome.old.learn outcome.old.answer)) state.old.pending }
+    requires numbers { HasNumbers 1 state.old.pending.tally }
+    ensures stands { (a : RunState) (at : NodeNumber) → Stands state.old a
+        → Stands state.new (in_world a (change_all at item.now.stamp a.world (followed_by item.now item.now.body outcome.old.learn outcome.old.answer))) }
+    ensures spares { Spends (one_at (target_by item.now.to item.now.body outcome.old.learn outcome.old.answer)) state.old.pending state.new.pending }
+    ensures lists { length state.new.pending.queues.lists ≡ length state.old.pending.queues.lists }
+    ensures frames { state.old.pending.tally.frames ≤ state.new.pending.tally.frames }
+    ensures graph { state.new.graph ≡ state.old.graph }
+    ensures numbers { (k : ℕ) → HasNumbers (k + 1) state.old.pending.tally → HasNumbers k state.new.pending.tally }
+    ensures sends { outcome.new.sends ≡ outcome.old.sends }
 {
+    if outcome.learn.is_none() && outcome.answer.is_none() {
+        return;
+    }
+    let reply = outcome.answer.take();
+    let also = follower_of(item, outcome.learn, reply);
+    follow(state, also, item.stamp);
+}
+
+// Packets are sent out of hooks of a node, in order. A hub sends by its hooks in their order, but for one of them.
+fn post_all<B: Node>(
+    alloc: Global,
+    state: &mut State<B>,
+    from: NodeId,
+    sends: &mut Sends,
+    stamp: Stamp,
+)
+    requires standing { IsStanding state.old }
+    requires room { HasFront 0 state.old.graph from (λ n. 0) sends.old state.old.pending }
+    requires numbers { HasNumbers (length sends.old) state.old.pending.tally }
+    ensures { (a : RunState) → Stands state.old a → Stands state.new (in_world a (change_all from stamp a.world (posts sends.old))) }
+{
+    let mut backwards = take_backwards(alloc, sends);
     let mut near = 0usize;
-    for (hook, packet) in sends.into_vec() {
+    while let Some(send) = backwards.pop() {
+        let (hook, packet) = send;
         state.post(from, &hook, near, packet, stamp);
         near = near.wrapping_add(1);
     }
+    *sends = Sequence::from_vec(backwards);
 }
 
-/// Delivers an outcome at a node, whose part has changed: packets leave, a refusal is counted, an item is accepted, and packets
-/// are sent.
-pub fn deliver<B: Node>(
-    state: &mut State<B>,
-    at: NodeId,
-    stamp: Stamp,
-    hook: &Option<Name>,
-    outcome: Outcome,
-    also: Option<Follower>,
-)
+/// Delivers an outcome at its item's node, whose part has changed: packets leave, a refusal is counted, an item is accepted, and
+/// packets are sent.
+pub fn deliver<B: Node>(alloc: Global, state: &mut State<B>, item: &Item, outcome: &mut Outcome)
     requires standing { IsStanding state.old }
-    requires may { AllMayLeaveBy hook.now outcome.leaves }
-    requires leaving { HasRoomToLeave at (length outcome.leaves) state.old }
-    requires room { HasRoom (needs (node_in state.old.graph.nodes at) (target_of also) outcome.sends) state.old.pending }
-    requires numbers { HasNumbers (length outcome.leaves + (length outcome.sends + 2)) state.old.pending.tally }
+    requires short { is_short outcome.old.answer ≡ true }
+    requires may { AllMayLeaveBy (arrival_hook item.now.body) outcome.old.leaves }
+    requires leaving { HasRoomToLeave item.now.to (length outcome.old.leaves) state.old }
+    requires room { HasFront 0 state.old.graph item.now.to (one_at (target_by item.now.to item.now.body outcome.old.learn outcome.old.answer))
+        outcome.old.sends state.old.pending }
+    requires numbers { HasNumbers (length outcome.old.leaves + (length outcome.old.sends + 2)) state.old.pending.tally }
     ensures { (a : RunState) → Stands state.old a
-        → Stands state.new (in_world a (change_all at stamp a.world (delivered (name_or_empty hook.now) outcome also))) }
+        → Stands state.new (in_world a (change_all item.now.to item.now.stamp a.world (follows_if false item.now item.now.body outcome.old))) }
 {
-    let Outcome {
-        sends,
-        leaves,
-        errno,
-        ..
-    } = outcome;
-    leave_all(state, at, stamp, hook, leaves);
-    state.count_refused(errno);
-    follow(state, also, stamp);
-    post_all(state, at, sends, stamp);
+    leave_any(alloc, state, item, &mut outcome.leaves);
+    state.count_refused(outcome.errno);
+    follow_item(state, item, outcome);
+    post_all(alloc, state, item.to, &mut outcome.sends, item.stamp);
 }

@@ -9,14 +9,16 @@ ghost use Rattle.ng_machine.specs.World.{port_of};
 ghost use Rattle.ng_pending.specs.Holds.{in_world};
 ghost use Rattle.ng_tally.specs.Tally.{HasNumbers};
 ghost use Rattle.ng_world.specs.Stands.{Stands, port_of as port_kept};
-ghost use Rattle.ng_service.specs.Leaving.{AllMayLeaveBy, MayLeaveBy, name_or_empty};
+ghost use Rattle.ng_service.specs.Leaving.{AllMayLeaveBy, MayLeaveBy, arrival_hook, name_or_empty};
 ghost use Rattle.ng_service.specs.Ports.{change_port, with_one_up, with_packet};
 ghost use Rattle.ng_service.specs.Room.{HasRoomToLeave, PortTakes, TakesPackets};
 
-use ng_base::{Name, NodeId, Packet, Stamp};
-use ng_machine::{Exit, Leaves, Told};
+use crate::emptying::take_backwards;
+use ng_base::{Name, NodeId, Packet, Sequence, Stamp};
+use ng_machine::{Body, Door, Exit, Item, Leaves, Told};
 use ng_node::Node;
 use ng_world::{Port, State};
+use std::alloc::Global;
 
 /// The place of the port that a node stands for.
 pub fn port_of(at: NodeId) -> usize
@@ -73,6 +75,7 @@ fn leave_by_wire<B: Node>(state: &mut State<B>, at: NodeId, stamp: Stamp, packet
         → Stands state.new (in_world a (leave a.world at stamp ToWire hook packet)) }
     ensures room { (n : ℕ) → HasRoomToLeave at (n + 1) state.old → HasRoomToLeave at n state.new }
     ensures graph { state.new.graph ≡ state.old.graph }
+    ensures frames { state.new.pending.tally.frames ≡ state.old.pending.tally.frames }
     ensures queues { state.new.pending.queues ≡ state.old.pending.queues }
     ensures numbers { (k : ℕ) → HasNumbers (k + 1) state.old.pending.tally → HasNumbers k state.new.pending.tally }
 {
@@ -102,6 +105,7 @@ fn leave_to_reader<B: Node>(state: &mut State<B>, _at: NodeId, hook: &Option<Nam
         → Stands state.new (in_world a (leave a.world _at stamp ToReader (name_or_empty hook.now) packet)) }
     ensures room { (n : ℕ) → HasRoomToLeave _at (n + 1) state.old → HasRoomToLeave _at n state.new }
     ensures graph { state.new.graph ≡ state.old.graph }
+    ensures frames { state.new.pending.tally.frames ≡ state.old.pending.tally.frames }
     ensures queues { state.new.pending.queues ≡ state.old.pending.queues }
     ensures numbers { (k : ℕ) → HasNumbers (k + 1) state.old.pending.tally → HasNumbers k state.new.pending.tally }
 {
@@ -127,6 +131,7 @@ fn leave<B: Node>(
         → Stands state.new (in_world a (leave a.world at stamp exit (name_or_empty hook.now) packet)) }
     ensures room { (n : ℕ) → HasRoomToLeave at (n + 1) state.old → HasRoomToLeave at n state.new }
     ensures graph { state.new.graph ≡ state.old.graph }
+    ensures frames { state.new.pending.tally.frames ≡ state.old.pending.tally.frames }
     ensures queues { state.new.pending.queues ≡ state.old.pending.queues }
     ensures numbers { (k : ℕ) → HasNumbers (k + 1) state.old.pending.tally → HasNumbers k state.new.pending.tally }
 {
@@ -137,24 +142,60 @@ fn leave<B: Node>(
     }
 }
 
-/// Packets leave, in order.
-pub fn leave_all<B: Node>(
+// The hook that a packet came by.
+fn arrival_hook(body: &Body) -> Option<Name>
+    ensures { result ≡ arrival_hook body.now }
+{
+    match body {
+        Body::Frame {
+            door: Door::Hook(hook),
+            ..
+        } => Some(*hook),
+        _ => None,
+    }
+}
+
+// Packets leave, in order.
+fn leave_all<B: Node>(
+    alloc: Global,
     state: &mut State<B>,
     at: NodeId,
     stamp: Stamp,
     hook: &Option<Name>,
-    leaves: Leaves,
+    leaves: &mut Leaves,
 )
-    requires may { AllMayLeaveBy hook.now leaves }
-    requires room { HasRoomToLeave at (length leaves) state.old }
-    requires numbers { HasNumbers (length leaves) state.old.pending.tally }
+    requires may { AllMayLeaveBy hook.now leaves.old }
+    requires room { HasRoomToLeave at (length leaves.old) state.old }
+    requires numbers { HasNumbers (length leaves.old) state.old.pending.tally }
     ensures stands { (a : RunState) → Stands state.old a
-        → Stands state.new (in_world a (change_all at stamp a.world (exits (name_or_empty hook.now) leaves))) }
+        → Stands state.new (in_world a (change_all at stamp a.world (exits (name_or_empty hook.now) leaves.old))) }
     ensures graph { state.new.graph ≡ state.old.graph }
+    ensures frames { state.new.pending.tally.frames ≡ state.old.pending.tally.frames }
     ensures queues { state.new.pending.queues ≡ state.old.pending.queues }
-    ensures numbers { (k : ℕ) → HasNumbers (k + length leaves) state.old.pending.tally → HasNumbers k state.new.pending.tally }
+    ensures numbers { (k : ℕ) → HasNumbers (k + length leaves.old) state.old.pending.tally → HasNumbers k state.new.pending.tally }
 {
-    for (exit, packet) in leaves.into_vec() {
+    let mut backwards = take_backwards(alloc, leaves);
+    while let Some((exit, packet)) = backwards.pop() {
         leave(state, at, stamp, exit, hook, packet);
     }
+    *leaves = Sequence::from_vec(backwards);
+}
+
+/// Packets leave that an item made leave, in order, where there are any.
+pub fn leave_any<B: Node>(alloc: Global, state: &mut State<B>, item: &Item, leaves: &mut Leaves)
+    requires may { AllMayLeaveBy (arrival_hook item.now.body) leaves.old }
+    requires room { HasRoomToLeave item.now.to (length leaves.old) state.old }
+    requires numbers { HasNumbers (length leaves.old) state.old.pending.tally }
+    ensures stands { (a : RunState) → Stands state.old a
+        → Stands state.new (in_world a (change_all item.now.to item.now.stamp a.world (exits (name_or_empty (arrival_hook item.now.body)) leaves.old))) }
+    ensures graph { state.new.graph ≡ state.old.graph }
+    ensures frames { state.new.pending.tally.frames ≡ state.old.pending.tally.frames }
+    ensures queues { state.new.pending.queues ≡ state.old.pending.queues }
+    ensures numbers { (k : ℕ) → HasNumbers (k + length leaves.old) state.old.pending.tally → HasNumbers k state.new.pending.tally }
+{
+    if leaves.as_slice().is_empty() {
+        return;
+    }
+    let hook = arrival_hook(&item.body);
+    leave_all(alloc, state, item.to, item.stamp, &hook, leaves);
 }

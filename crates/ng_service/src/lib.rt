@@ -3,6 +3,7 @@
 
 mod conclusion;
 mod delivery;
+mod emptying;
 mod follower;
 mod leaving;
 mod own;

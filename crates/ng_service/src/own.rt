@@ -44,7 +44,7 @@ pub fn apply_own<B: Node>(alloc: Global, state: &mut State<B>, item: Item) -> Re
     ensures err { OnErr result ((a : RunState) → Stands state.old a → Stands state.new a) }
     ensures back { IfErr result (λ it. it ≡ item) }
 {
-    let Ok(outcome) = answer_of(alloc, state, &item) else {
+    let Ok(mut outcome) = answer_of(alloc, state, &item) else {
         return Err(item);
     };
     if !is_short(&outcome.answer) {
@@ -54,6 +54,6 @@ pub fn apply_own<B: Node>(alloc: Global, state: &mut State<B>, item: Item) -> Re
         return Err(item);
     };
     finish(state, &item);
-    conclude(alloc, state, &item, outcome);
+    conclude(alloc, state, &item, &mut outcome);
     Ok(())
 }

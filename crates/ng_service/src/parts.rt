@@ -1,5 +1,5 @@
 // The parts of a step, each with what stays as it was.
-ghost use Rattle.std.specs.Prelude.{◌≡◌, ℕ, ◌+◌, slice_set, length, Some};
+ghost use Rattle.std.specs.Prelude.{◌≡◌, ℕ, ◌+◌, ◌≤◌, slice_set, length, Some};
 ghost use Rattle.std.specs.Arc.{arc_value};
 ghost use Rattle.std.specs.Option.{option_map};
 ghost use Rattle.ng_machine.specs.Case.{absorb};
@@ -34,6 +34,7 @@ pub fn finish<B: Node>(state: &mut State<B>, item: &Item)
     ensures lists { length state.new.pending.queues.lists ≡ length state.old.pending.queues.lists }
     ensures told { state.new.told ≡ state.old.told }
     ensures ports { state.new.ports ≡ state.old.ports }
+    ensures frames { state.old.pending.tally.frames ≤ state.new.pending.tally.frames + 1 }
     ensures numbers { (k : ℕ) → HasNumbers (k + 1) state.old.pending.tally → HasNumbers k state.new.pending.tally }
 {
     state.pending.finish(item);
@@ -53,6 +54,7 @@ pub fn dequeue<B: Node>(state: &mut State<B>, at: usize, seat: u32) -> BoxedItem
     ensures lists { length state.new.pending.queues.lists ≡ length state.old.pending.queues.lists }
     ensures told { state.new.told ≡ state.old.told }
     ensures ports { state.new.ports ≡ state.old.ports }
+    ensures frames { state.old.pending.tally.frames ≤ state.new.pending.tally.frames + 1 }
     ensures numbers { (k : ℕ) → HasNumbers (k + 1) state.old.pending.tally → HasNumbers k state.new.pending.tally }
 {
     state.pending.dequeue(at, seat)

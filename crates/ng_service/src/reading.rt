@@ -2,14 +2,14 @@
 ghost use Rattle.std.specs.Prelude.{◌≡◌, ◌+◌, ◌<◌, true, length, vec_len, vec_capacity, IfErr, OnErr, OnOk};
 ghost use Rattle.ng_machine.specs.LowRun.{IsLow};
 ghost use Rattle.ng_machine.specs.Run.{RunState};
-ghost use Rattle.ng_machine.specs.World.{NodeRecord, node_in};
+ghost use Rattle.ng_machine.specs.World.{NodeRecord};
 ghost use Rattle.ng_pending.specs.Holds.{done_from};
-ghost use Rattle.ng_pending.specs.Room.{HasRoom};
 ghost use Rattle.ng_step.specs.Applied.{IsAtNode, applied_from};
 ghost use Rattle.ng_tally.specs.Tally.{HasNumbers};
 ghost use Rattle.ng_topology.specs.Topology.{is_home};
 ghost use Rattle.ng_world.specs.Stands.{Stands};
-ghost use Rattle.ng_service.specs.Followers.{is_short, needs, target_by};
+ghost use Rattle.ng_service.specs.Followers.{is_short, one_at, target_by};
+ghost use Rattle.ng_service.specs.Front.{HasFront};
 ghost use Rattle.ng_service.specs.Room.{HasRoomToLeave};
 ghost use Rattle.ng_service.specs.Work.{IsReadAt};
 
@@ -27,18 +27,18 @@ pub(crate) fn bring_about<B: Node>(
     alloc: Global,
     state: &mut State<B>,
     item: &Item,
-    outcome: Outcome,
+    outcome: &mut Outcome,
 )
-    requires work { (a : RunState) × (node : NodeRecord) × Stands state.old (done_from a item.now) × IsAtNode a item.now node × IsReadAt item.now node outcome }
+    requires work { (a : RunState) × (node : NodeRecord) × Stands state.old (done_from a item.now) × IsAtNode a item.now node × IsReadAt item.now node outcome.old }
     requires home { is_home state.old.graph item.now.to ≡ true }
-    requires short { is_short outcome.answer ≡ true }
-    requires leaving { HasRoomToLeave item.now.to (length outcome.leaves) state.old }
+    requires short { is_short outcome.old.answer ≡ true }
+    requires leaving { HasRoomToLeave item.now.to (length outcome.old.leaves) state.old }
     requires told { vec_len state.old.told < vec_capacity state.old.told }
-    requires room { HasRoom (needs (node_in state.old.graph.nodes item.now.to) (target_by item.now.to item.now.body outcome.learn outcome.answer)
-        outcome.sends) state.old.pending }
-    requires numbers { HasNumbers (length outcome.leaves + (length outcome.sends + 2)) state.old.pending.tally }
+    requires room { HasFront 0 state.old.graph item.now.to (one_at (target_by item.now.to item.now.body outcome.old.learn outcome.old.answer))
+        outcome.old.sends state.old.pending }
+    requires numbers { HasNumbers (length outcome.old.leaves + (length outcome.old.sends + 2)) state.old.pending.tally }
     ensures { (a : RunState) (node : NodeRecord) → Stands state.old (done_from a item.now) → IsAtNode a item.now node
-        → IsReadAt item.now node outcome → Stands state.new (applied_from a item.now) }
+        → IsReadAt item.now node outcome.old → Stands state.new (applied_from a item.now) }
 {
     absorb(state, item.to, &outcome.counts);
     conclude(alloc, state, item, outcome);
@@ -49,7 +49,7 @@ fn apply_read_item<B: Node>(
     alloc: Global,
     state: &mut State<B>,
     item: &Item,
-    outcome: Outcome,
+    mut outcome: Outcome,
 ) -> Result<(), Outcome>
     requires work { (a : RunState) × (node : NodeRecord) × Stands state.old a × IsAtNode a item.now node × IsLow a.world × IsReadAt item.now node outcome }
     requires home { is_home state.old.graph item.now.to ≡ true }
@@ -65,7 +65,7 @@ fn apply_read_item<B: Node>(
         return Err(outcome);
     };
     finish(state, item);
-    bring_about(alloc, state, item, outcome);
+    bring_about(alloc, state, item, &mut outcome);
     Ok(())
 }
 

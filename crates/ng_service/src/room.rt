@@ -1,13 +1,13 @@
 // Room for all that an outcome brings about, before anything changes.
-ghost use Rattle.std.specs.Prelude.{◌≡◌, ℕ, ◌+◌, ◌<◌, ◌≤◌, ◌^◌, length, map, vec_len, vec_capacity, slice_get, Some, OnOk};
+ghost use Rattle.std.specs.Prelude.{◌≡◌, ℕ, ◌+◌, ◌<◌, ◌≤◌, ◌^◌, length, map, take, vec_len, vec_capacity, slice_get, Some, OnOk};
 ghost use Rattle.ng_machine.specs.Run.{RunState};
 ghost use Rattle.ng_machine.specs.World.{node_in, port_of};
-ghost use Rattle.ng_pending.specs.Room.{HasRoom};
 ghost use Rattle.ng_queue.specs.Queues.{spare_at};
 ghost use Rattle.ng_world.specs.declared.state.Port.{Port as KeptPort};
 ghost use Rattle.ng_world.specs.Room.{wants};
 ghost use Rattle.ng_world.specs.Stands.{Stands, port_of as port_kept};
-ghost use Rattle.ng_service.specs.Followers.{needs, one_at};
+ghost use Rattle.ng_service.specs.Followers.{one_at};
+ghost use Rattle.ng_service.specs.Front.{HasFront, IsEnough};
 
 use crate::leaving::port_of;
 use ng_base::{Name, NoMemory, NodeId, Packet};
@@ -49,22 +49,30 @@ fn widen_port<B: Node>(state: &mut State<B>, at: NodeId, more: usize) -> Result<
     widen_ports(&mut state.ports, port_of(at), more)
 }
 
-// Room for the packets that are sent out of hooks of a node. A hub sends by its hooks in their order, but for one of them.
+// Room for the packets that are sent out of hooks of a node, as far as they can still wait: where enough of them go on to fill the
+// free places, the others are lost. A hub sends by its hooks in their order, but for one of them.
 fn widen_sends<B: Node>(
     state: &mut State<B>,
     from: NodeId,
     sends: &[(Name, Packet)],
 ) -> Result<(), NoMemory>
     ensures stands { (a : RunState) → Stands state.old a → Stands state.new a }
-    ensures room { OnOk result ((n : ℕ) → n < length state.old.pending.queues.lists
-        → spare_at state.old.pending.queues.spares n + wants (node_in state.old.graph.nodes from) sends.now n ≤ spare_at state.new.pending.queues.spares n) }
+    ensures room { OnOk result ((front : ℕ) × IsEnough 1 state.old.graph from sends.now state.old.pending front
+        × ((n : ℕ) → n < length state.old.pending.queues.lists
+        → spare_at state.old.pending.queues.spares n + wants (node_in state.old.graph.nodes from) (take front sends.now) n ≤ spare_at state.new.pending.queues.spares n)) }
     ensures graph { state.new.graph ≡ state.old.graph }
     ensures lists { state.new.pending.queues.lists ≡ state.old.pending.queues.lists }
     ensures tally { state.new.pending.tally ≡ state.old.pending.tally }
 {
+    let mut free = state.pending.free();
     let mut near = 0usize;
     for send in sends {
-        state.widen_for(from, &send.0, near)?;
+        if free == 0 {
+            return Ok(());
+        }
+        if state.widen_for(from, &send.0, near)? {
+            free -= 1;
+        }
         near = near.wrapping_add(1);
     }
     Ok(())
@@ -85,7 +93,8 @@ fn widen_at<B: Node>(state: &mut State<B>, to: Option<NodeId>) -> Result<(), NoM
     }
 }
 
-/// Makes room for all that an outcome at a node brings about, for an item at the node `to`, and for an entry that is told.
+/// Makes room for all that an outcome at a node brings about once the item is done that it is of, for an item at the node `to`, and
+/// for an entry that is told. Of packets that are sent there is room for a front, where the others are lost.
 ///
 /// # Errors
 /// `NoMemory` where memory ran out, and for nothing else; nothing but room changed.
@@ -96,7 +105,7 @@ pub fn make_room<B: Node>(
     to: Option<NodeId>,
 ) -> Result<(), NoMemory>
     ensures stands { (a : RunState) → Stands state.old a → Stands state.new a }
-    ensures room { OnOk result (HasRoom (needs (node_in state.old.graph.nodes at) to outcome.now.sends) state.new.pending) }
+    ensures room { OnOk result (HasFront 1 state.old.graph at (one_at to) outcome.now.sends state.new.pending) }
     ensures told { OnOk result (vec_len state.new.told + (length outcome.now.leaves + 1) ≤ vec_capacity state.new.told) }
     ensures port { OnOk result ((port : KeptPort) → slice_get state.new.ports.items (port_of at) ≡ Some port
         → vec_len port.leaving + length outcome.now.leaves ≤ vec_capacity port.leaving) }

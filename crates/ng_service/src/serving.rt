@@ -5,6 +5,7 @@ ghost use Rattle.ng_machine.specs.declared.plan.Plan.{Plan as ThePlan};
 ghost use Rattle.ng_machine.specs.Body.{is_frame};
 ghost use Rattle.ng_machine.specs.Desk.{Reads, job_of};
 ghost use Rattle.ng_machine.specs.LowRun.{IsLow};
+ghost use Rattle.ng_machine.specs.Outcome.{nothing};
 ghost use Rattle.ng_machine.specs.Run.{RunState};
 ghost use Rattle.ng_machine.specs.World.{NodeRecord, node_at};
 ghost use Rattle.ng_pending.specs.Holds.{with_taken};
@@ -17,15 +18,40 @@ ghost use Rattle.ng_world.specs.Stands.{Stands};
 ghost use Rattle.ng_service.specs.Work.{IsReadAt, IsServed, IsWorkedOn};
 
 use crate::conclusion::{is_short, target};
+use crate::emptying::clear;
 use crate::parts::{dequeue, reuse};
 use crate::reading::bring_about;
 use crate::room::make_room;
 use ng_base::{ItemId, NoMemory};
 use ng_machine::{Body, Item, Outcome};
 use ng_node::Node;
-use ng_plan::{Plan, eval};
+use ng_plan::{Plan, eval_into, nothing};
 use ng_world::State;
 use std::alloc::Global;
+
+/// What a plan makes of an item that is a packet, put into an outcome that has nothing yet.
+///
+/// # Errors
+/// `NoMemory` where memory ran out, and for nothing else; the outcome may have a part of it then.
+fn evaluate_into(
+    alloc: Global,
+    item: &Item,
+    plan: &Plan,
+    outcome: &mut Outcome,
+) -> Result<(), NoMemory>
+    requires frame { is_frame item.now.body ≡ true }
+    requires blank { outcome.old ≡ nothing }
+    ensures { OnOk result (IsEvaluated plan.now item.now.body outcome.new) }
+{
+    match &item.body {
+        Body::Frame {
+            door,
+            link: _,
+            packet,
+        } => eval_into(alloc, plan, door, packet, outcome),
+        _ => unreachable!(),
+    }
+}
 
 /// What a plan makes of an item that is a packet.
 ///
@@ -35,30 +61,26 @@ pub fn evaluate(alloc: Global, item: &Item, plan: &Plan) -> Result<Outcome, NoMe
     requires { is_frame item.now.body ≡ true }
     ensures { IfOk result (λ outcome. IsEvaluated plan.now item.now.body outcome) }
 {
-    match &item.body {
-        Body::Frame {
-            door,
-            link: _,
-            packet,
-        } => eval(alloc, plan, door, packet),
-        _ => unreachable!(),
-    }
+    let mut outcome = nothing(alloc);
+    evaluate_into(alloc, item, plan, &mut outcome)?;
+    Ok(outcome)
 }
 
-// The packet at the head of the queue that is the least is applied, with what its plan made of it.
+// The packet at the head of the queue that is the least is applied, with what its plan made of it, of which nothing is left.
 fn serve_read<B: Node>(
     alloc: Global,
     state: &mut State<B>,
     at: usize,
     seat: u32,
-    outcome: Outcome,
+    outcome: &mut Outcome,
 ) -> Result<(), NoMemory>
     requires least { IsLeast state.old.pending.queues.lists at }
     requires work { (a : RunState) × (item : TheItem) × (node : NodeRecord) × Stands state.old a × (head (list_at state.old.pending.queues.lists at) ≡ Some item)
-        × (node_at a.world item.to ≡ Some node) × IsLow a.world × IsReadAt item node outcome }
+        × (node_at a.world item.to ≡ Some node) × IsLow a.world × IsReadAt item node outcome.old }
     ensures served { OnOk result ((a : RunState) (item : TheItem) (node : NodeRecord) → Stands state.old a
-        → head (list_at state.old.pending.queues.lists at) ≡ Some item → node_at a.world item.to ≡ Some node → IsLow a.world → IsReadAt item node outcome
+        → head (list_at state.old.pending.queues.lists at) ≡ Some item → node_at a.world item.to ≡ Some node → IsLow a.world → IsReadAt item node outcome.old
         → Stands state.new (applied_from (with_taken a item.id.0 seat) item)) }
+    ensures blank { OnOk result (outcome.new ≡ nothing) }
     ensures err { OnErr result ((a : RunState) → Stands state.old a → Stands state.new a) }
 {
     if !is_short(&outcome.answer) {
@@ -66,51 +88,60 @@ fn serve_read<B: Node>(
     }
     let head = state.pending.head(at);
     let to = head.to;
-    let target = target(head, &outcome);
-    make_room(state, to, &outcome, target)?;
+    let target = target(head, outcome);
+    make_room(state, to, outcome, target)?;
     let item = dequeue(state, at, seat);
     bring_about(alloc, state, &item, outcome);
     reuse(state, item);
+    clear(alloc, outcome);
     Ok(())
 }
 
-// What its node's plan makes of the packet that is next, with its queue and its number; none where what is next is anything else.
+// What its node's plan makes of the packet that is next, put into an outcome that has nothing yet: its queue and its number; none
+// where what is next is anything else.
 fn work_on_next<B: Node>(
     alloc: Global,
     state: &State<B>,
-) -> Result<Option<(usize, ItemId, Outcome)>, NoMemory>
-    requires { (a : RunState) × Stands state.now a }
+    outcome: &mut Outcome,
+) -> Result<Option<(usize, ItemId)>, NoMemory>
+    requires standing { (a : RunState) × Stands state.now a }
+    requires blank { outcome.old ≡ nothing }
     ensures least { IfOk result (λ o. IfSome o (λ x. IsLeast state.now.pending.queues.lists x.0)) }
-    ensures work { IfOk result (λ o. IfSome o (λ x. (a : RunState) → Stands state.now a → IsWorkedOn a state.now x.0 x.1 x.2)) }
+    ensures work { IfOk result (λ o. IfSome o (λ x. (a : RunState) → Stands state.now a → IsWorkedOn a state.now x.0 x.1 outcome.new)) }
     ensures none { IfOk result (λ o. IfNone o ((a : RunState) (item : TheItem) (plan : ThePlan) → Stands state.now a
         → IsNext a item → job_of a.world item ≡ Reads item plan → ⊥)) }
+    ensures same { IfOk result (λ o. IfNone o (outcome.new ≡ outcome.old)) }
 {
     let Some((at, plan)) = state.next_read() else {
         return Ok(None);
     };
     let head = state.pending.head(at);
-    let outcome = evaluate(alloc, head, plan)?;
-    Ok(Some((at, head.id, outcome)))
+    evaluate_into(alloc, head, plan, outcome)?;
+    Ok(Some((at, head.id)))
 }
 
 /// Takes the item that is next, works on it and applies it at once, where it is a packet that a plan works on: its number. What
 /// is kept stands then for the run in which the seat took it and handed in what its plan made of it, but the item was never out.
+/// What the plan makes of it goes through `outcome`, which has nothing before and after.
 ///
 /// # Errors
-/// `NoMemory` where memory ran out, and for nothing else; nothing but room changed.
+/// `NoMemory` where memory ran out, and for nothing else; nothing but room changed, and the outcome may have anything.
 pub fn serve<B: Node>(
     alloc: Global,
     state: &mut State<B>,
     seat: u32,
+    outcome: &mut Outcome,
 ) -> Result<Option<ItemId>, NoMemory>
     requires work { (a : RunState) × Stands state.old a × IsLow a.world }
+    requires blank { outcome.old ≡ nothing }
     ensures served { IfOk result (λ o. IfSome o (λ id. (a : RunState) → Stands state.old a → IsLow a.world → IsServed a state.new seat id)) }
     ensures none { IfOk result (λ o. IfNone o ((a : RunState) (item : TheItem) (plan : ThePlan) → Stands state.old a
         → IsNext a item → job_of a.world item ≡ Reads item plan → ⊥)) }
     ensures same { IfOk result (λ o. IfNone o (state.new ≡ state.old)) }
+    ensures blank { OnOk result (outcome.new ≡ nothing) }
     ensures err { OnErr result ((a : RunState) → Stands state.old a → Stands state.new a) }
 {
-    let Some((at, id, outcome)) = work_on_next(alloc, state)? else {
+    let Some((at, id)) = work_on_next(alloc, state, outcome)? else {
         return Ok(None);
     };
     serve_read(alloc, state, at, seat, outcome)?;

@@ -22,7 +22,7 @@ fn apply_write_item<B: Node>(
     state: &mut State<B>,
     item: &Item,
     node: B,
-    outcome: Outcome,
+    mut outcome: Outcome,
 ) -> Result<(), (B, Outcome)>
     requires work { (a : RunState) × (was : NodeRecord) × Stands state.old a × IsAtNode a item.now was × IsLow a.world
         × IsWrittenAt item.now was (B.state node) outcome }
@@ -42,7 +42,7 @@ fn apply_write_item<B: Node>(
     };
     bring_home(state, item.to, node, plan);
     finish(state, item);
-    conclude(alloc, state, item, outcome);
+    conclude(alloc, state, item, &mut outcome);
     Ok(())
 }
 

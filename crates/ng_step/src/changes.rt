@@ -1,5 +1,5 @@
 // Small changes of a step.
-ghost use Rattle.std.specs.Prelude.{◌≡◌, ℕ, ◌+◌, ◌<◌, ◌==◌, length, vec_len, vec_capacity, Some};
+ghost use Rattle.std.specs.Prelude.{◌≡◌, ℕ, ◌+◌, ◌<◌, ◌≤◌, ◌==◌, length, vec_len, vec_capacity, Some};
 ghost use Rattle.ng_base.specs.declared.ids.NodeId.{NodeId as NodeNumber};
 ghost use Rattle.ng_base.specs.declared.ids.Stamp.{Stamp as TheStamp};
 ghost use Rattle.ng_machine.specs.Change.{Accepts, change, change_all};
@@ -38,6 +38,7 @@ pub fn accept_at<B: Node>(
     ensures told { state.new.told ≡ state.old.told }
     ensures ports { state.new.ports ≡ state.old.ports }
     ensures numbers { (k : ℕ) → HasNumbers (k + 1) state.old.pending.tally → HasNumbers k state.new.pending.tally }
+    ensures frames { state.old.pending.tally.frames ≤ state.new.pending.tally.frames }
 {
     if let Some(kind) = state.graph.kind(to) {
         state.pending.accept(to, kind, body, tag, stamp);

@@ -1,10 +1,10 @@
 // Items are accepted, and packets are sent.
-ghost use Rattle.std.specs.Prelude.{◌≡◌, ◌==◌, ℕ, ◌+◌, ◌-◌, ◌<◌, ◌≤◌, slice_set, length, Some, OnOk};
-ghost use Rattle.ng_machine.specs.Change.{accept, arrival, change_all, lose, post, send_joined};
+ghost use Rattle.std.specs.Prelude.{◌≡◌, ◌==◌, ℕ, ◌+◌, ◌-◌, ◌<◌, ◌≤◌, slice_set, length, Some, IfOk, OnOk};
+ghost use Rattle.ng_machine.specs.Body.{is_frame};
+ghost use Rattle.ng_machine.specs.Change.{accept, arrival, change_all, lose, most_frames, post, send_joined};
 ghost use Rattle.ng_machine.specs.Effect.{counts_unless, is_fine};
 ghost use Rattle.ng_machine.specs.Run.{RunState};
 ghost use Rattle.ng_machine.specs.World.{NodeRecord, hook_at, kind_at, node_at, node_in};
-ghost use Rattle.std.specs.Option.{option_copied};
 ghost use Rattle.ng_pending.specs.Holds.{IsOutIn, done_from, in_world};
 ghost use Rattle.ng_pending.specs.Room.{HasRoom, Spends, Uses};
 ghost use Rattle.ng_queue.specs.Queues.{spare_at};
@@ -12,7 +12,7 @@ ghost use Rattle.ng_tally.specs.Tally.{HasNumbers};
 ghost use Rattle.ng_tie.specs.TieLaws.{one};
 ghost use Rattle.ng_base.specs.declared.ids.NodeId.{NodeId as NodeNumber};
 ghost use Rattle.ng_base.specs.declared.ids.Stamp.{Stamp as TheStamp};
-ghost use Rattle.ng_world.specs.Room.{goes_to};
+ghost use Rattle.ng_world.specs.Room.{goes_on, goes_to};
 ghost use Rattle.ng_world.specs.Stands.{IsStanding, MayLeave, Stands};
 
 use crate::State;
@@ -42,6 +42,7 @@ impl<B: Node> State<B> {
         ensures graph { self.new.graph ≡ self.old.graph }
         ensures lists { length self.new.pending.queues.lists ≡ length self.old.pending.queues.lists }
         ensures numbers { (k : ℕ) → HasNumbers (k + 1) self.old.pending.tally → HasNumbers k self.new.pending.tally }
+        ensures frames { self.new.pending.tally.frames ≡ self.old.pending.tally.frames + one (is_frame body) }
     {
         self.pending.accept(to, kind, body, tag, stamp);
     }
@@ -53,6 +54,7 @@ impl<B: Node> State<B> {
         ensures graph { self.new.graph ≡ self.old.graph }
         ensures queues { self.new.pending.queues ≡ self.old.pending.queues }
         ensures numbers { (k : ℕ) → HasNumbers (k + 1) self.old.pending.tally → HasNumbers k self.new.pending.tally }
+        ensures frames { self.new.pending.tally.frames ≡ self.old.pending.tally.frames }
     {
         self.pending.lose(cause);
     }
@@ -80,6 +82,7 @@ impl<B: Node> State<B> {
         ensures graph { self.new.graph ≡ self.old.graph }
         ensures lists { length self.new.pending.queues.lists ≡ length self.old.pending.queues.lists }
         ensures numbers { (k : ℕ) → HasNumbers (k + 1) self.old.pending.tally → HasNumbers k self.new.pending.tally }
+        ensures frames { self.new.pending.tally.frames ≡ self.old.pending.tally.frames }
     {
         self.forgo(to);
         self.lose(cause);
@@ -88,7 +91,7 @@ impl<B: Node> State<B> {
     // A packet is sent out of a hook: the first cause that holds loses it, or it waits at the peer.
     fn send(&mut self, hook: Hook, packet: Packet, stamp: Stamp)
         requires standing { IsStanding self.old }
-        requires room { HasRoom (λ n. one (goes_to (Some hook) n)) self.old.pending }
+        requires room { self.old.pending.tally.frames < most_frames → HasRoom (λ n. one (goes_to (Some hook) n)) self.old.pending }
         requires numbers { HasNumbers 1 self.old.pending.tally }
         ensures spares { Spends (λ n. one (goes_to (Some hook) n)) self.old.pending self.new.pending }
         ensures used { Uses (λ n. one (goes_to (Some hook) n)) self.old.pending self.new.pending }
@@ -96,6 +99,8 @@ impl<B: Node> State<B> {
         ensures graph { self.new.graph ≡ self.old.graph }
         ensures lists { length self.new.pending.queues.lists ≡ length self.old.pending.queues.lists }
         ensures numbers { (k : ℕ) → HasNumbers (k + 1) self.old.pending.tally → HasNumbers k self.new.pending.tally }
+        ensures frames { (c : ℕ) → most_frames ≤ self.old.pending.tally.frames + (one (goes_on self.old.graph.nodes (Some hook)) + c)
+            → most_frames ≤ self.new.pending.tally.frames + c }
     {
         if !hook.joined {
             self.lose_sent(hook.peer.node, Cause::NoPeer);
@@ -116,7 +121,7 @@ impl<B: Node> State<B> {
     /// hooks first.
     pub fn post(&mut self, from: NodeId, hook: &Name, near: usize, packet: Packet, stamp: Stamp)
         requires standing { IsStanding self.old }
-        requires room { HasRoom (λ n. one (goes_to (hook_at (node_in self.old.graph.nodes from) hook.now) n)) self.old.pending }
+        requires room { self.old.pending.tally.frames < most_frames → HasRoom (λ n. one (goes_to (hook_at (node_in self.old.graph.nodes from) hook.now) n)) self.old.pending }
         requires numbers { HasNumbers 1 self.old.pending.tally }
         ensures spares { Spends (λ n. one (goes_to (hook_at (node_in self.old.graph.nodes from) hook.now) n)) self.old.pending self.new.pending }
         ensures used { Uses (λ n. one (goes_to (hook_at (node_in self.old.graph.nodes from) hook.now) n)) self.old.pending self.new.pending }
@@ -124,6 +129,8 @@ impl<B: Node> State<B> {
         ensures graph { self.new.graph ≡ self.old.graph }
         ensures lists { length self.new.pending.queues.lists ≡ length self.old.pending.queues.lists }
         ensures numbers { (k : ℕ) → HasNumbers (k + 1) self.old.pending.tally → HasNumbers k self.new.pending.tally }
+        ensures frames { (c : ℕ) → most_frames ≤ self.old.pending.tally.frames + (one (goes_on self.old.graph.nodes (hook_at (node_in self.old.graph.nodes from) hook.now)) + c)
+            → most_frames ≤ self.new.pending.tally.frames + c }
     {
         match self.graph.peer_near(from, hook, near) {
             Some(hook) => {
@@ -144,6 +151,7 @@ impl<B: Node> State<B> {
         ensures spares { self.new.pending.queues.spares ≡ self.old.pending.queues.spares }
         ensures lists { length self.new.pending.queues.lists ≡ length self.old.pending.queues.lists }
         ensures numbers { (k : ℕ) → HasNumbers (k + 1) self.old.pending.tally → HasNumbers k self.new.pending.tally }
+        ensures frames { self.old.pending.tally.frames ≤ self.new.pending.tally.frames + 1 }
     {
         self.pending.finish(item);
     }
@@ -156,31 +164,35 @@ impl<B: Node> State<B> {
         ensures graph { self.new.graph ≡ self.old.graph }
         ensures queues { self.new.pending.queues ≡ self.old.pending.queues }
         ensures numbers { (k : ℕ) → HasNumbers (k + 1) self.old.pending.tally → HasNumbers k self.new.pending.tally }
+        ensures frames { self.new.pending.tally.frames ≡ self.old.pending.tally.frames }
     {
         if errno.0 != 0 {
             self.pending.refuse();
         }
     }
 
-    /// Makes room for one packet more that is sent out of a hook of the node, which is looked for near a place first.
+    /// Makes room for one packet more that is sent out of a hook of the node, which is looked for near a place first. Whether such
+    /// a packet goes on: the hook is joined, and its peer's node is there.
     ///
     /// # Errors
     /// `NoMemory` where memory ran out, and for nothing else; nothing but room changed.
-    pub fn widen_for(&mut self, from: NodeId, name: &Name, near: usize) -> Result<(), NoMemory>
+    pub fn widen_for(&mut self, from: NodeId, name: &Name, near: usize) -> Result<bool, NoMemory>
         ensures stands { (a : RunState) → Stands self.old a → Stands self.new a }
         ensures room { OnOk result ((n : ℕ) → n < length self.old.pending.queues.lists
             → spare_at self.old.pending.queues.spares n + one (goes_to (hook_at (node_in self.old.graph.nodes from) name.now) n) ≤ spare_at self.new.pending.queues.spares n) }
+        ensures goes_on { IfOk result (λ goes. goes ≡ goes_on self.old.graph.nodes (hook_at (node_in self.old.graph.nodes from) name.now)) }
         ensures lists { self.new.pending.queues.lists ≡ self.old.pending.queues.lists }
         ensures graph { self.new.graph ≡ self.old.graph }
         ensures tally { self.new.pending.tally ≡ self.old.pending.tally }
     {
         let Some(hook) = self.graph.peer_near(from, name, near) else {
-            return Ok(());
+            return Ok(false);
         };
         let to = hook.peer.node;
-        if to.0 as usize >= self.pending.queues.len() {
-            return Ok(());
+        let goes = hook.joined && self.graph.kind(to).is_some();
+        if (to.0 as usize) < self.pending.queues.len() {
+            self.pending.widen(to)?;
         }
-        self.pending.widen(to)
+        Ok(goes)
     }
 }

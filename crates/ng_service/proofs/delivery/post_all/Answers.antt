@@ -1,28 +1,37 @@
-use Rattle.std.proofs.Common.{◌≡◌, ◌∙◌, ℕ, List, ◌∷◌, length, sym, ap, subst, arith, rules}
-use Rattle.ng_machine.specs.World.{node_in}
+use Rattle.std.proofs.Common.{◌∙◌, ℕ, List, length, sym, ap, subst, arith}
+use Rattle.std.specs.Prelude.{reverse}
 use Rattle.ng_machine.specs.Change.{change_all, post}
 use Rattle.ng_machine.specs.Effect.{posts}
 use Rattle.ng_pending.specs.Holds.{in_world}
-use Rattle.ng_queue.specs.Queues.{spare_at}
 use Rattle.ng_tally.specs.Tally.{HasNumbers}
-use Rattle.ng_topology.specs.Topology.{Topology}
-use Rattle.ng_service.proofs.Sending.{wants_more}
+use Rattle.ng_service.proofs.Fronts.{front_next, front_room}
+use Rattle.ng_service.proofs.Numbers.{fewer_numbers}
+use Rattle.ng_service.proofs.Sending.{popped_first}
 use Rattle.ng_service.proofs.delivery.post_all.Goals as goal
 
-pub loop-hook-preserved : goal.loop-hook-preserved
-loop-hook-preserved g c =
-    let next : c.loop-hook.hook-iterator.rest.items ≡ (c.in-Some.hook, c.in-Some.packet) ∷ c.next.new.self.rest.items = search rules in
-    let here : node_in c.loop-hook.state.graph.nodes c.args.from ≡ node_in c.args.state.now.graph.nodes c.args.from = ap (λ (t : Topology). node_in t.nodes c.args.from) c.loop-hook.invariant.graph in
+pub post-requires-clause-room : goal.post-requires-clause-room
+post-requires-clause-room g c κs within =
+    front_room c.loop-send.state.graph c.args.from c.in-Some.send.0 c.in-Some.send.1 (reverse c.loop-send.backwards.items) (reverse c.pop.new.self.items) c.loop-send.state.pending
+    (popped_first c.loop-send.backwards.items c.pop.new.self.items c.in-Some.send c.in-Some.ensures.items) c.loop-send.invariant.room
+
+pub post-requires-clause-numbers : goal.post-requires-clause-numbers
+post-requires-clause-numbers g c κs within =
+    let next = popped_first c.loop-send.backwards.items c.pop.new.self.items c.in-Some.send c.in-Some.ensures.items in
+    fewer_numbers 1 (length (reverse c.loop-send.backwards.items)) c.loop-send.state.pending.tally (let e = ap (λ (l : List (List ℕ × List ℕ)). length l) next in omega arith) c.loop-send.invariant.numbers
+
+pub loop-send-preserved : goal.loop-send-preserved
+loop-send-preserved g c =
+    let next = popped_first c.loop-send.backwards.items c.pop.new.self.items c.in-Some.send c.in-Some.ensures.items in
     record {
-      standing = (in_world c.loop-hook.invariant.standing.0 (post c.loop-hook.invariant.standing.0.world c.args.from c.in-Some.hook c.in-Some.packet c.args.stamp), c.post.ensures.stands c.loop-hook.invariant.standing.0 c.loop-hook.invariant.standing.1);
-      graph = c.post.ensures.graph ∙ c.loop-hook.invariant.graph;
-      room = λ n lt. wants_more (node_in c.args.state.now.graph.nodes c.args.from) (node_in c.loop-hook.state.graph.nodes c.args.from) c.in-Some.hook c.in-Some.packet c.loop-hook.hook-iterator.rest.items c.next.new.self.rest.items n
-          (spare_at c.loop-hook.state.pending.queues.spares n) (spare_at c.post.new.self.pending.queues.spares n) here next (c.loop-hook.invariant.room n (let e = c.post.ensures.lists in omega arith)) (c.post.ensures.spares n);
-      numbers = c.post.ensures.numbers (length c.next.new.self.rest.items)
-          (subst (λ (k : ℕ). HasNumbers k c.loop-hook.state.pending.tally) (ap (λ (l : List (List ℕ × List ℕ)). length l) next ∙ (omega arith)) c.loop-hook.invariant.numbers);
+      standing = (in_world c.loop-send.invariant.standing.0 (post c.loop-send.invariant.standing.0.world c.args.from c.in-Some.send.0 c.in-Some.send.1 c.args.stamp), c.post.ensures.stands c.loop-send.invariant.standing.0 c.loop-send.invariant.standing.1);
+      graph = c.post.ensures.graph ∙ c.loop-send.invariant.graph;
+      room = front_next c.loop-send.state.graph c.post.new.self.graph c.args.from c.in-Some.send.0 c.in-Some.send.1 (reverse c.loop-send.backwards.items) (reverse c.pop.new.self.items) c.loop-send.state.pending c.post.new.self.pending
+          c.post.ensures.graph next c.post.ensures.spares c.post.ensures.lists c.post.ensures.frames c.loop-send.invariant.room;
+      numbers = c.post.ensures.numbers (length (reverse c.pop.new.self.items))
+          (subst (λ (k : ℕ). HasNumbers k c.loop-send.state.pending.tally) (ap (λ (l : List (List ℕ × List ℕ)). length l) next ∙ (omega arith)) c.loop-send.invariant.numbers);
       stands = λ a S.
-          let r = c.loop-hook.invariant.stands a S in (
-            post r.0 c.args.from c.in-Some.hook c.in-Some.packet c.args.stamp,
+          let r = c.loop-send.invariant.stands a S in (
+            post r.0 c.args.from c.in-Some.send.0 c.in-Some.send.1 c.args.stamp,
             c.post.ensures.stands (in_world a r.0) r.1,
             ap (λ (l : List (List ℕ × List ℕ)). change_all c.args.from c.args.stamp r.0 (posts l)) (sym next) ∙ r.2,
           );

@@ -1,20 +1,19 @@
-use Rattle.std.proofs.Common.{◌≡◌, ◌∙◌, ℕ, ◌+◌, ◌≤◌, ◌^◌, List, length, sym, ap, subst, arith}
+use Rattle.std.proofs.Common.{◌≡◌, ◌∙◌, ℕ, ◌+◌, ◌^◌, length, sym, ap, subst, arith}
 use Rattle.std.specs.declared.option.Option.{Option}
 use Rattle.ng_base.specs.declared.ids.NodeId.{NodeId}
 use Rattle.ng_machine.specs.declared.outcome.Outcome.{Outcome}
 use Rattle.ng_machine.specs.Case.{outcome_of}
 use Rattle.ng_machine.specs.Change.{change_all}
 use Rattle.ng_machine.specs.Run.{RunState}
-use Rattle.ng_machine.specs.World.{NodeRecord, node_in, state_of}
+use Rattle.ng_machine.specs.World.{NodeRecord, state_of}
 use Rattle.ng_pending.specs.Holds.{done_from, in_world}
-use Rattle.ng_queue.specs.Queues.{spare_at}
 use Rattle.ng_tally.specs.declared.tally.Tally.{Tally}
 use Rattle.ng_tally.specs.Tally.{HasNumbers}
 use Rattle.ng_step.specs.Applied.{IsAtNode}
-use Rattle.ng_topology.specs.Topology.{Topology}
 use Rattle.ng_world.specs.Stands.{Stands}
-use Rattle.ng_world.specs.Room.{wants}
-use Rattle.ng_service.specs.Followers.{follows, needs, target_by}
+use Rattle.ng_service.specs.Followers.{follows, one_at, target_by}
+use Rattle.ng_service.specs.Front.{HasFront}
+use Rattle.ng_service.proofs.Fronts.{front_stays}
 use Rattle.ng_service.specs.Leaving.{AllMayLeaveBy, arrival_hook}
 use Rattle.ng_service.proofs.LeavingRoom.{leaving_kept}
 use Rattle.ng_service.proofs.Numbers.{fewer_numbers, has_numbers}
@@ -46,14 +45,11 @@ conclude-requires-clause-leaving g c κs within =
     c.finish.ensures.told c.finish.ensures.ports (let few = c.make_room.ensures.few in omega arith) c.in-Ok-make_room.ensures.told c.in-Ok-make_room.ensures.port
 
 pub conclude-requires-clause-room : goal.conclude-requires-clause-room
-conclude-requires-clause-room g c κs within = λ n lt.
-    let here : wants (node_in c.finish.new.state.graph.nodes c.args.item.to) c.in-Ok.outcome.sends n ≡ wants (node_in c.args.state.now.graph.nodes c.args.item.to) c.in-Ok.outcome.sends n =
-    ap (λ (t : Topology). wants (node_in t.nodes c.args.item.to) c.in-Ok.outcome.sends n) (c.finish.ensures.graph ∙ c.make_room.ensures.graph) in
-    let spares : spare_at c.finish.new.state.pending.queues.spares n ≡ spare_at c.make_room.new.state.pending.queues.spares n = ap (λ (l : List ℕ). spare_at l n) c.finish.ensures.spares in
-    let lists : length c.finish.new.state.pending.queues.lists ≡ length c.make_room.new.state.pending.queues.lists = c.finish.ensures.lists in
-    let room : needs (node_in c.args.state.now.graph.nodes c.args.item.to) (target_by c.args.item.to c.args.item.body c.in-Ok.outcome.learn c.in-Ok.outcome.answer) c.in-Ok.outcome.sends n ≤ spare_at c.make_room.new.state.pending.queues.spares n =
-    subst (λ (o : Option NodeId). needs (node_in c.args.state.now.graph.nodes c.args.item.to) o c.in-Ok.outcome.sends n ≤ spare_at c.make_room.new.state.pending.queues.spares n) c.target.ensures (c.in-Ok-make_room.ensures.room n (omega arith)) in
-    omega arith
+conclude-requires-clause-room g c κs within =
+    let e = c.finish.ensures.frames in
+    front_stays 1 0 c.args.state.now.graph c.finish.new.state.graph c.args.item.to (one_at (target_by c.args.item.to c.args.item.body c.in-Ok.outcome.learn c.in-Ok.outcome.answer)) c.in-Ok.outcome.sends
+    c.make_room.new.state.pending c.finish.new.state.pending (c.finish.ensures.graph ∙ c.make_room.ensures.graph) c.finish.ensures.spares c.finish.ensures.lists (omega arith)
+    (subst (λ (o : Option NodeId). HasFront 1 c.args.state.now.graph c.args.item.to (one_at o) c.in-Ok.outcome.sends c.make_room.new.state.pending) c.target.ensures c.in-Ok-make_room.ensures.room)
 
 pub conclude-requires-clause-numbers : goal.conclude-requires-clause-numbers
 conclude-requires-clause-numbers g c κs within =

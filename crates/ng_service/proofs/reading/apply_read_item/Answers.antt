@@ -1,12 +1,11 @@
-use Rattle.std.proofs.Common.{◌≡◌, ◌∙◌, ℕ, List, ◌+◌, ◌≤◌, ◌^◌, length, sym, ap, subst, arith}
+use Rattle.std.proofs.Common.{◌∙◌, ◌+◌, ◌^◌, length, sym, subst, arith}
 use Rattle.std.specs.declared.option.Option.{Option}
 use Rattle.ng_base.specs.declared.ids.NodeId.{NodeId}
-use Rattle.ng_machine.specs.World.{NodeRecord, node_in}
-use Rattle.ng_queue.specs.Queues.{spare_at}
 use Rattle.ng_tally.specs.declared.tally.Tally.{Tally}
 use Rattle.ng_tally.specs.Tally.{HasNumbers}
-use Rattle.ng_topology.specs.Topology.{Topology}
-use Rattle.ng_service.specs.Followers.{needs, target_by}
+use Rattle.ng_service.specs.Followers.{one_at, target_by}
+use Rattle.ng_service.specs.Front.{HasFront}
+use Rattle.ng_service.proofs.Fronts.{front_stays}
 use Rattle.ng_service.proofs.LeavingRoom.{leaving_kept}
 use Rattle.ng_service.proofs.Numbers.{fewer_numbers, has_numbers}
 use Rattle.ng_service.proofs.reading.apply_read_item.Goals as goal
@@ -26,16 +25,11 @@ bring_about-requires-clause-leaving g c κs within =
     (let few = c.make_room.ensures.few in omega arith) c.in-Ok.ensures.told c.in-Ok.ensures.port
 
 pub bring_about-requires-clause-room : goal.bring_about-requires-clause-room
-bring_about-requires-clause-room g c κs within = λ n lt.
-    let node : node_in c.finish.new.state.graph.nodes c.args.item.now.to ≡ node_in c.args.state.now.graph.nodes c.args.item.now.to = ap (λ (t : Topology). node_in t.nodes c.args.item.now.to) (c.finish.ensures.graph ∙ c.make_room.ensures.graph) in
-    let here : needs (node_in c.finish.new.state.graph.nodes c.args.item.now.to) (target_by c.args.item.now.to c.args.item.now.body c.args.outcome.learn c.args.outcome.answer) c.args.outcome.sends n
-    ≡ needs (node_in c.args.state.now.graph.nodes c.args.item.now.to) (target_by c.args.item.now.to c.args.item.now.body c.args.outcome.learn c.args.outcome.answer) c.args.outcome.sends n =
-    ap (λ (o : Option NodeRecord). needs o (target_by c.args.item.now.to c.args.item.now.body c.args.outcome.learn c.args.outcome.answer) c.args.outcome.sends n) node in
-    let spares : spare_at c.finish.new.state.pending.queues.spares n ≡ spare_at c.make_room.new.state.pending.queues.spares n = ap (λ (l : List ℕ). spare_at l n) c.finish.ensures.spares in
-    let lists = c.finish.ensures.lists in
-    let room : needs (node_in c.args.state.now.graph.nodes c.args.item.now.to) (target_by c.args.item.now.to c.args.item.now.body c.args.outcome.learn c.args.outcome.answer) c.args.outcome.sends n ≤ spare_at c.make_room.new.state.pending.queues.spares n =
-    subst (λ (o : Option NodeId). needs (node_in c.args.state.now.graph.nodes c.args.item.now.to) o c.args.outcome.sends n ≤ spare_at c.make_room.new.state.pending.queues.spares n) c.target.ensures (c.in-Ok.ensures.room n (omega arith)) in
-    omega arith
+bring_about-requires-clause-room g c κs within =
+    let e = c.finish.ensures.frames in
+    front_stays 1 0 c.args.state.now.graph c.finish.new.state.graph c.args.item.now.to (one_at (target_by c.args.item.now.to c.args.item.now.body c.args.outcome.learn c.args.outcome.answer)) c.args.outcome.sends
+    c.make_room.new.state.pending c.finish.new.state.pending (c.finish.ensures.graph ∙ c.make_room.ensures.graph) c.finish.ensures.spares c.finish.ensures.lists (omega arith)
+    (subst (λ (o : Option NodeId). HasFront 1 c.args.state.now.graph c.args.item.now.to (one_at o) c.args.outcome.sends c.make_room.new.state.pending) c.target.ensures c.in-Ok.ensures.room)
 
 pub bring_about-requires-clause-numbers : goal.bring_about-requires-clause-numbers
 bring_about-requires-clause-numbers g c κs within =

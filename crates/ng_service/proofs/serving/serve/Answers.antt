@@ -2,7 +2,6 @@ use Rattle.std.proofs.Common.{ℕ, subst}
 use Rattle.std.specs.Prelude.{IfSome}
 use Rattle.std.specs.declared.option.Option.{Option}
 use Rattle.ng_base.specs.declared.ids.ItemId.{ItemId}
-use Rattle.ng_machine.specs.declared.outcome.Outcome.{Outcome}
 use Rattle.ng_machine.specs.Run.{RunState}
 use Rattle.ng_queue.specs.Queues.{IsLeast}
 use Rattle.ng_world.specs.Stands.{Stands}
@@ -14,16 +13,16 @@ pub serve_read-requires-clause-work : goal.serve_read-requires-clause-work
 serve_read-requires-clause-work g c κs within =
     let a = c.requires.work.0 in
     let S = c.requires.work.1 in
-    let least = subst (λ (o : Option (ℕ × ItemId × Outcome)). IfSome o (λ x. IsLeast c.args.state.now.pending.queues.lists x.0)) c.in-Some.is c.in_ok-at.ensures.least in
-    let W = subst (λ (o : Option (ℕ × ItemId × Outcome)). IfSome o (λ x. (b : RunState) → Stands c.args.state.now b → IsWorkedOn b c.args.state.now x.0 x.1 x.2)) c.in-Some.is c.in_ok-at.ensures.work a S in
-    let H = head_read c.args.state.now a c.in-Some.at W.item W.plan c.in-Some.outcome S least W.first W.job W.evaluated in
+    let least = subst (λ (o : Option (ℕ × ItemId)). IfSome o (λ x. IsLeast c.args.state.now.pending.queues.lists x.0)) c.in-Some.is c.in_ok-at.ensures.least in
+    let W = subst (λ (o : Option (ℕ × ItemId)). IfSome o (λ x. (b : RunState) → Stands c.args.state.now b → IsWorkedOn b c.args.state.now x.0 x.1 c.work_on_next.new.outcome)) c.in-Some.is c.in_ok-at.ensures.work a S in
+    let H = head_read c.args.state.now a c.in-Some.at W.item W.plan c.work_on_next.new.outcome S least W.first W.job W.evaluated in
     (a, W.item, H.0, S, W.first, H.1, c.requires.work.2, H.2)
 
 pub returns-clause-served : goal.returns-clause-served
 returns-clause-served g c = λ a S L.
-    let least = subst (λ (o : Option (ℕ × ItemId × Outcome)). IfSome o (λ x. IsLeast c.args.state.now.pending.queues.lists x.0)) c.in-Some.is c.in_ok-at.ensures.least in
-    let W = subst (λ (o : Option (ℕ × ItemId × Outcome)). IfSome o (λ x. (b : RunState) → Stands c.args.state.now b → IsWorkedOn b c.args.state.now x.0 x.1 x.2)) c.in-Some.is c.in_ok-at.ensures.work a S in
-    let H = head_read c.args.state.now a c.in-Some.at W.item W.plan c.in-Some.outcome S least W.first W.job W.evaluated in
+    let least = subst (λ (o : Option (ℕ × ItemId)). IfSome o (λ x. IsLeast c.args.state.now.pending.queues.lists x.0)) c.in-Some.is c.in_ok-at.ensures.least in
+    let W = subst (λ (o : Option (ℕ × ItemId)). IfSome o (λ x. (b : RunState) → Stands c.args.state.now b → IsWorkedOn b c.args.state.now x.0 x.1 c.work_on_next.new.outcome)) c.in-Some.is c.in_ok-at.ensures.work a S in
+    let H = head_read c.args.state.now a c.in-Some.at W.item W.plan c.work_on_next.new.outcome S least W.first W.job W.evaluated in
     record {
       item = W.item;
       number = W.number;

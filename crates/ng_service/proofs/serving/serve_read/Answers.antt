@@ -1,5 +1,7 @@
 use Rattle.std.proofs.Common.{◌≡◌, ◌∙◌, inr, List, true, ◌+◌, ◌^◌, length, sym, ap, subst, arith}
+use Rattle.std.specs.declared.option.Option.{Option}
 use Rattle.std.specs.declared.option.Option.TheVariants.{Some}
+use Rattle.ng_base.specs.declared.ids.NodeId.{NodeId}
 use Rattle.ng_machine.specs.declared.item.Item.{Item}
 use Rattle.ng_machine.specs.Run.{RunState}
 use Rattle.ng_machine.specs.World.{NodeRecord, node_at}
@@ -14,8 +16,11 @@ use Rattle.ng_topology.specs.Topology.{Topology, is_home}
 use Rattle.ng_world.specs.declared.state.State.{State}
 use Rattle.ng_world.specs.Stands.{Stands}
 use Rattle.ng_world.proofs.TakenItems.{same_some}
+use Rattle.ng_service.specs.Followers.{one_at, target_by}
+use Rattle.ng_service.specs.Front.{HasFront}
 use Rattle.ng_service.specs.Room.{HasRoomToLeave}
 use Rattle.ng_service.specs.Work.{IsReadAt}
+use Rattle.ng_service.proofs.Fronts.{front_stays}
 use Rattle.ng_service.proofs.LeavingRoom.{leaving_kept}
 use Rattle.ng_service.proofs.NextReads.{next_at, next_home, next_is}
 use Rattle.ng_service.proofs.Numbers.{fewer_numbers, has_numbers}
@@ -56,7 +61,7 @@ bring_about-requires-clause-work g c κs within =
       node,
       subst (λ (x : Item). Stands c.dequeue-item.new.state (done_from (with_taken a x.id.0 c.args.seat) x)) same (stands_done g at a item c.requires.work.3 c.requires.work.4),
       subst (λ (x : Item). IsAtNode (with_taken a x.id.0 c.args.seat) x node) same (at_node g at a item node c.requires.work.3 c.requires.work.4 c.requires.work.5),
-      subst (λ (x : Item). IsReadAt x node c.args.outcome) same c.requires.work.7,
+      subst (λ (x : Item). IsReadAt x node c.args.outcome.now) same c.requires.work.7,
     )
 
 pub bring_about-requires-clause-home : goal.bring_about-requires-clause-home
@@ -69,16 +74,26 @@ bring_about-requires-clause-home g c κs within =
 pub bring_about-requires-clause-leaving : goal.bring_about-requires-clause-leaving
 bring_about-requires-clause-leaving g c κs within =
     let at = (goal.at.bring_about-requires-clause-leaving g c).After-deref in
-    subst (λ (x : Item). HasRoomToLeave x.to (length c.args.outcome.leaves) c.dequeue-item.new.state) (sym (c.deref.ensures ∙ same_item g at c.head-head.result.now c.head-head.ensures))
-    (leaving_kept c.make_room.new.state c.dequeue-item.new.state c.requires.work.0 c.head-head.result.now.to (length c.args.outcome.leaves) (c.make_room.ensures.stands c.requires.work.0 c.requires.work.3) c.requires.work.6
+    subst (λ (x : Item). HasRoomToLeave x.to (length c.args.outcome.now.leaves) c.dequeue-item.new.state) (sym (c.deref.ensures ∙ same_item g at c.head-head.result.now c.head-head.ensures))
+    (leaving_kept c.make_room.new.state c.dequeue-item.new.state c.requires.work.0 c.head-head.result.now.to (length c.args.outcome.now.leaves) (c.make_room.ensures.stands c.requires.work.0 c.requires.work.3) c.requires.work.6
     c.dequeue-item.ensures.told c.dequeue-item.ensures.ports (let few = c.make_room.ensures.few in omega arith) c.in_ok-make_room.ensures.told c.in_ok-make_room.ensures.port)
+
+pub bring_about-requires-clause-room : goal.bring_about-requires-clause-room
+bring_about-requires-clause-room g c κs within =
+    let at = (goal.at.bring_about-requires-clause-room g c).After-deref in
+    let e = c.dequeue-item.ensures.frames in
+    subst (λ (x : Item). HasFront 0 c.dequeue-item.new.state.graph x.to (one_at (target_by x.to x.body c.args.outcome.now.learn c.args.outcome.now.answer)) c.args.outcome.now.sends c.dequeue-item.new.state.pending)
+    (sym (c.deref.ensures ∙ same_item g at c.head-head.result.now c.head-head.ensures))
+    (front_stays 1 0 c.args.state.now.graph c.dequeue-item.new.state.graph c.head-head.result.now.to (one_at (target_by c.head-head.result.now.to c.head-head.result.now.body c.args.outcome.now.learn c.args.outcome.now.answer)) c.args.outcome.now.sends
+    c.make_room.new.state.pending c.dequeue-item.new.state.pending (c.dequeue-item.ensures.graph ∙ c.make_room.ensures.graph) c.dequeue-item.ensures.spares c.dequeue-item.ensures.lists (omega arith)
+    (subst (λ (o : Option NodeId). HasFront 1 c.args.state.now.graph c.head-head.result.now.to (one_at o) c.args.outcome.now.sends c.make_room.new.state.pending) c.target-target.ensures c.in_ok-make_room.ensures.room))
 
 pub bring_about-requires-clause-numbers : goal.bring_about-requires-clause-numbers
 bring_about-requires-clause-numbers g c κs within =
     let few = c.make_room.ensures.few in
-    c.dequeue-item.ensures.numbers (length c.args.outcome.leaves + (length c.args.outcome.sends + 2))
-    (subst (λ (t : Tally). HasNumbers (length c.args.outcome.leaves + (length c.args.outcome.sends + 2) + 1) t) (sym c.make_room.ensures.tally)
-    (fewer_numbers (length c.args.outcome.leaves + (length c.args.outcome.sends + 2) + 1) (2 ^ 62) c.args.state.now.pending.tally (omega arith) (has_numbers c.args.state.now c.requires.work.0 c.requires.work.3 c.requires.work.6)))
+    c.dequeue-item.ensures.numbers (length c.args.outcome.now.leaves + (length c.args.outcome.now.sends + 2))
+    (subst (λ (t : Tally). HasNumbers (length c.args.outcome.now.leaves + (length c.args.outcome.now.sends + 2) + 1) t) (sym c.make_room.ensures.tally)
+    (fewer_numbers (length c.args.outcome.now.leaves + (length c.args.outcome.now.sends + 2) + 1) (2 ^ 62) c.args.state.now.pending.tally (omega arith) (has_numbers c.args.state.now c.requires.work.0 c.requires.work.3 c.requires.work.6)))
 
 pub returns-clause-served : goal.returns-clause-served
 returns-clause-served g c = λ a item node S e here L R.
@@ -87,6 +102,6 @@ returns-clause-served g c = λ a item node S e here L R.
     let applied = c.bring_about.ensures (with_taken a c.deref.result.now.id.0 c.args.seat) node
     (subst (λ (x : Item). Stands c.dequeue-item.new.state (done_from (with_taken a x.id.0 c.args.seat) x)) (sym same) (stands_done g at a item S e))
     (subst (λ (x : Item). IsAtNode (with_taken a x.id.0 c.args.seat) x node) (sym same) (at_node g at a item node S e here))
-    (subst (λ (x : Item). IsReadAt x node c.args.outcome) (sym same) R) in
+    (subst (λ (x : Item). IsReadAt x node c.args.outcome.now) (sym same) R) in
     subst (λ (s : State g.row.B.Denot). Stands s (applied_from (with_taken a item.id.0 c.args.seat) item)) (sym c.reuse.ensures)
     (subst (λ (x : Item). Stands c.bring_about.new.state (applied_from (with_taken a x.id.0 c.args.seat) x)) same applied)

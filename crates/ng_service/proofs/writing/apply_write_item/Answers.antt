@@ -1,4 +1,4 @@
-use Rattle.std.proofs.Common.{◌≡◌, ◌∙◌, inr, ℕ, ◌+◌, ◌≤◌, ◌^◌, List, length, set, sym, ap, subst, arith, refl}
+use Rattle.std.proofs.Common.{◌≡◌, ◌∙◌, inr, ◌+◌, ◌^◌, List, length, set, sym, ap, subst, arith, refl}
 use Rattle.std.specs.declared.option.Option.{Option}
 use Rattle.std.specs.declared.option.Option.TheVariants.{Some}
 use Rattle.ng_base.specs.declared.ids.NodeId.{NodeId}
@@ -8,14 +8,15 @@ use Rattle.ng_machine.specs.State.{KindState}
 use Rattle.ng_machine.specs.World.{NodeRecord, node_in}
 use Rattle.ng_pending.specs.declared.pending.Pending.{Pending}
 use Rattle.ng_pending.specs.Holds.{done_from, in_world}
-use Rattle.ng_queue.specs.Queues.{spare_at}
 use Rattle.ng_step.specs.Applied.{IsAtNode}
 use Rattle.ng_tally.specs.declared.tally.Tally.{Tally}
 use Rattle.ng_tally.specs.Tally.{HasNumbers}
 use Rattle.ng_topology.specs.Topology.{FitsNode, Topology, change_node, is_home, with_kept}
 use Rattle.ng_world.specs.Room.{wants}
 use Rattle.ng_world.specs.Stands.{Stands}
-use Rattle.ng_service.specs.Followers.{needs, target_by}
+use Rattle.ng_service.specs.Followers.{one_at, target_by}
+use Rattle.ng_service.specs.Front.{HasFront, goers}
+use Rattle.ng_service.proofs.Fronts.{front_moved, goers_changed}
 use Rattle.ng_service.proofs.LeavingRoom.{leaving_kept}
 use Rattle.ng_service.proofs.NodesChanged.{home_given, wants_changed}
 use Rattle.ng_service.proofs.Numbers.{fewer_numbers, has_numbers}
@@ -71,17 +72,19 @@ conclude-requires-clause-leaving g c κs within =
     (let few = c.make_room.ensures.few in omega arith) c.in-Ok-make_room.ensures.told c.in-Ok-make_room.ensures.port
 
 pub conclude-requires-clause-room : goal.conclude-requires-clause-room
-conclude-requires-clause-room g c κs within = λ n lt.
+conclude-requires-clause-room g c κs within =
     let f = λ (node : NodeRecord). with_kept (g.B.Node.state c.args.node).kept node in
-    let here : wants (node_in c.finish.new.state.graph.nodes c.args.item.now.to) c.args.outcome.sends n ≡ wants (node_in c.args.state.now.graph.nodes c.args.item.now.to) c.args.outcome.sends n =
-    ap (λ (t : Topology). wants (node_in t.nodes c.args.item.now.to) c.args.outcome.sends n) (c.finish.ensures.graph ∙ c.bring_home.ensures.graph)
-    ∙ ap (λ (t : Topology). wants (node_in (change_node t c.args.item.now.to f).nodes c.args.item.now.to) c.args.outcome.sends n) c.make_room.ensures.graph
-    ∙ wants_changed c.args.state.now.graph.nodes c.args.item.now.to f c.args.outcome.sends n (λ r. refl) in
-    let spares : spare_at c.finish.new.state.pending.queues.spares n ≡ spare_at c.make_room.new.state.pending.queues.spares n = ap (λ (l : List ℕ). spare_at l n) c.finish.ensures.spares ∙ ap (λ (p : Pending). spare_at p.queues.spares n) c.bring_home.ensures.pending in
-    let lists : length c.finish.new.state.pending.queues.lists ≡ length c.make_room.new.state.pending.queues.lists = c.finish.ensures.lists ∙ ap (λ (p : Pending). length p.queues.lists) c.bring_home.ensures.pending in
-    let room : needs (node_in c.args.state.now.graph.nodes c.args.item.now.to) (target_by c.args.item.now.to c.args.item.now.body c.args.outcome.learn c.args.outcome.answer) c.args.outcome.sends n ≤ spare_at c.make_room.new.state.pending.queues.spares n =
-    subst (λ (o : Option NodeId). needs (node_in c.args.state.now.graph.nodes c.args.item.now.to) o c.args.outcome.sends n ≤ spare_at c.make_room.new.state.pending.queues.spares n) c.target.ensures (c.in-Ok-make_room.ensures.room n (omega arith)) in
-    omega arith
+    let home = c.finish.ensures.graph ∙ c.bring_home.ensures.graph in
+    let same = ap (λ (p : Pending). p.tally.frames) c.bring_home.ensures.pending in
+    let e = c.finish.ensures.frames in
+    front_moved 1 0 c.args.state.now.graph c.finish.new.state.graph c.args.item.now.to (one_at (target_by c.args.item.now.to c.args.item.now.body c.args.outcome.learn c.args.outcome.answer)) c.args.outcome.sends
+    c.make_room.new.state.pending c.finish.new.state.pending
+    (λ front n. ap (λ (t : Topology). wants (node_in t.nodes c.args.item.now.to) front n) home ∙ ap (λ (t : Topology). wants (node_in (change_node t c.args.item.now.to f).nodes c.args.item.now.to) front n) c.make_room.ensures.graph
+    ∙ wants_changed c.args.state.now.graph.nodes c.args.item.now.to f front n (λ r. refl))
+    (λ front. ap (λ (t : Topology). goers t.nodes c.args.item.now.to front) home ∙ ap (λ (t : Topology). goers (change_node t c.args.item.now.to f).nodes c.args.item.now.to front) c.make_room.ensures.graph
+    ∙ goers_changed c.args.state.now.graph.nodes c.args.item.now.to f front (λ r. refl))
+    (c.finish.ensures.spares ∙ ap (λ (p : Pending). p.queues.spares) c.bring_home.ensures.pending) (c.finish.ensures.lists ∙ ap (λ (p : Pending). length p.queues.lists) c.bring_home.ensures.pending) (omega arith)
+    (subst (λ (o : Option NodeId). HasFront 1 c.args.state.now.graph c.args.item.now.to (one_at o) c.args.outcome.sends c.make_room.new.state.pending) c.target.ensures c.in-Ok-make_room.ensures.room)
 
 pub conclude-requires-clause-numbers : goal.conclude-requires-clause-numbers
 conclude-requires-clause-numbers g c κs within =
