@@ -4,11 +4,10 @@ use Rattle.std.specs.Prelude.{IsSome}
 use Rattle.std.specs.Option.{option_map}
 use Rattle.ng_base.specs.declared.ids.NodeId.{NodeId}
 use Rattle.ng_base.specs.declared.kind.Kind.{Kind}
-use Rattle.ng_machine.specs.State.{State, cut_hook, kept_without_hook}
+use Rattle.ng_machine.specs.State.{State}
 use Rattle.ng_machine.specs.declared.hook.End.{End}
-use Rattle.ng_machine.specs.World.{NodeRecord, kind_at, state_of, without_hook, node_id, link_id, new_hook, with_hook, blank_node}
+use Rattle.ng_machine.specs.World.{NodeRecord, kind_at, node_id, link_id, new_hook, with_hook, blank_node}
 use Rattle.ng_topology.specs.Topology.{Topology, IsSound, empty_graph, change_node, make_node, retire_node, use_link, lend_box, give_box, sprout_node, with_kept}
-use Rattle.ng_topology.proofs.NodeLemmas.{names_without}
 use Rattle.ng_topology.proofs.SoundLemmas.{home_last, home_still, sound_change}
 use Rattle.ng_graph_examples.specs.Rest.{IsAtRest}
 
@@ -124,8 +123,3 @@ given old lent new id state links went came rest =
 pub is_there : (node : Option NodeRecord) (kind : Option Kind) → kind ≡ option_map kind_at node → is_some kind ≡ true → IsSome node
 is_there None kind is some = let e : is_some kind ≡ false = ap is_some is in absurd (cc (e, some))
 is_there (Some node) kind is some = refl
-
--- A NODE WITHOUT A HOOK
-
-pub state_without : (node : NodeRecord) (hook : List ℕ) → state_of (without_hook node hook) ≡ cut_hook (state_of node) hook
-state_without node hook = ap (λ (l : List (List ℕ)). let s : State = record { hooks = l; kept = kept_without_hook node.kept hook } in s) (names_without hook node.hooks (map (λ h. h.name) node.hooks) refl)

@@ -1,8 +1,8 @@
 // Graphs that orders change, as they were worked out by hand.
 use crate::boxes::boxes;
 use crate::steps::Step::{
-    AddHalf, Connect, Gone, Hooks, Leave, Lend, Make, MayNot, Named, Rename, Retire, ShutDown,
-    Sprout, Walk,
+    AddHalf, Connect, Gone, Hooks, Leave, Lend, Make, MayNot, Named, Plan, Rename, Retire,
+    ShutDown, Sprout, Walk,
 };
 use crate::steps::{Case, try_case};
 use ng_base::{Errno, Kind};
@@ -72,7 +72,10 @@ const CASES: &[Case] = &[
             Sprout((1, b"c"), Kind::Hub, b"z"),
             Connect((2, b"w"), (4, b"s")),
             Connect((2, b"m"), (3, b"t")),
+            Plan(2),
             Lend(2),
+            Plan(2),
+            Plan(2),
             Hooks(
                 2,
                 &[

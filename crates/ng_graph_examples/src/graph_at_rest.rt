@@ -1,20 +1,15 @@
 // A graph between its steps, each of which asks first whether it may be done.
-ghost use Rattle.std.specs.Prelude.{◌≡◌, ◌≤◌, All, length, true, IfOk, Some};
-ghost use Rattle.std.specs.Arc.{arc_value};
-ghost use Rattle.std.specs.Option.{option_map};
-ghost use Rattle.ng_machine.specs.State.{blank_of, kind_of, way_of};
-ghost use Rattle.ng_machine.specs.World.{NodeRecord, node_in, state_of, without_hook};
+ghost use Rattle.std.specs.Prelude.{◌≡◌, ◌≤◌, All, length, true};
+ghost use Rattle.ng_machine.specs.State.{blank_of, kind_of};
 ghost use Rattle.ng_topology.specs.Topology.{IsThere};
 
 use ng_base::{Errno, Kind, LinkId, Name, NodeId};
 use ng_machine::{End, Hook};
 use ng_node::Node;
 use ng_path::read_path;
-use ng_plan::{Plan, without};
 use ng_topology::Graph;
 use std::alloc::Global;
 use std::marker::Model;
-use std::sync::Arc;
 use std::test::Fail;
 
 /// The most links of an example.
@@ -183,46 +178,33 @@ impl<B: Node> GraphAtRest<B> {
         self.graph.settle(at, link)
     }
 
-    // The plan that a node has without a hook, where its type has plans.
-    fn plan_without(&self, alloc: Global, at: &End) -> Result<Option<Arc<Plan>>, Fail>
-        ensures { IfOk result (λ next. (node : NodeRecord) → node_in self.now.nodes at.now.node ≡ Some node
-            → option_map arc_value next ≡ way_of (state_of (without_hook node at.now.hook))) }
-    {
-        match self.graph.kind(at.node) {
-            Some(Kind::One2many) | None => Err(Errno::NOENT)?,
-            Some(_) => {
-                let plan = self.graph.plan(at.node)?;
-                let next = without(alloc, &plan, &at.hook)?;
-                Ok(Some(next))
-            }
-        }
-    }
-
     /// Takes the hook of an end away, where it has that link: whether it has.
     #[tactic(auto, using(crate::proofs::AtRest::changed_if))]
-    pub(crate) fn leave(&mut self, alloc: Global, at: &End, link: LinkId) -> Result<bool, Fail> {
+    pub(crate) fn leave(&mut self, at: &End, link: LinkId) -> bool {
         if !is_there(&self.graph, at.node) {
-            return Err(Errno::NOENT)?;
+            return false;
         }
-        let next = self.plan_without(alloc, at)?;
-        Ok(self.graph.leave(at, link, next))
+        self.graph.leave(at, link)
     }
 
-    /// Hands a node's box out and takes it back with a new plan.
+    /// Hands a node's box out and takes it back.
     #[tactic(auto, using(crate::proofs::AtRest::given))]
-    pub(crate) fn lend_and_give(&mut self, alloc: Global, id: NodeId) -> Result<(), Fail> {
+    pub(crate) fn lend_and_give(&mut self, id: NodeId) -> Result<(), Fail> {
         if !is_there(&self.graph, id) {
             return Err(Errno::NOENT)?;
         }
         let node = self.graph.lend(id);
-        match node.plan(alloc) {
-            Ok(next) => {
-                self.graph.give(id, node, next);
-                Ok(())
-            }
-            Err(why) => {
-                self.graph.restore(id, node);
-                Err(why)?
+        self.graph.give(id, node);
+        Ok(())
+    }
+
+    /// Has a node's plan made, and looks at it: whether there is one then.
+    pub(crate) fn plan(&mut self, alloc: Global, id: NodeId) -> Result<bool, Fail> {
+        match self.graph.kind(id) {
+            Some(Kind::One2many) | None => Ok(false),
+            Some(_) => {
+                let _plan = self.graph.plan(alloc, id)?;
+                Ok(self.graph.peek_plan(id).is_some())
             }
         }
     }

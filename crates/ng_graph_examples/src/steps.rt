@@ -31,6 +31,8 @@ pub(crate) enum Step {
     Connect(At, At),
     /// A node's box is lent and comes home.
     Lend(u32),
+    /// A node's plan is made, and is there then.
+    Plan(u32),
     /// A hook is taken away by its link, if it has that.
     Leave(At, u32, bool),
     /// A node goes.
@@ -114,7 +116,7 @@ fn shut_down<B: Node>(
     let hooks = Vec::from_slice(alloc, hooks)?;
     graph.retire(id);
     for hook in &hooks {
-        if graph.leave(alloc, &hook.peer, hook.link)? {
+        if graph.leave(&hook.peer, hook.link) {
             left.push(hook.peer)?;
         }
     }
@@ -153,7 +155,7 @@ fn take_away<B: Node>(
     step: &Step,
 ) -> Result<bool, Fail> {
     match step {
-        Step::Leave(at, link, is) => Ok(graph.leave(alloc, &end(at)?, LinkId(*link))? == *is),
+        Step::Leave(at, link, is) => Ok(graph.leave(&end(at)?, LinkId(*link)) == *is),
         Step::Retire(node) => Ok(graph.retire(NodeId(*node))),
         Step::ShutDown(node, ends) => { are_ends(&shut_down(graph, alloc, NodeId(*node))?, ends) }
         _ => ask(graph, step),
@@ -180,9 +182,10 @@ fn take<B: Node>(graph: &mut GraphAtRest<B>, alloc: Global, step: &Step) -> Resu
         }
         Step::Connect(ours, theirs) => connect(graph, alloc, &end(ours)?, &end(theirs)?),
         Step::Lend(node) => {
-            graph.lend_and_give(alloc, NodeId(*node))?;
+            graph.lend_and_give(NodeId(*node))?;
             Ok(true)
         }
+        Step::Plan(node) => graph.plan(alloc, NodeId(*node)),
         _ => take_away(graph, alloc, step),
     }
 }

@@ -77,6 +77,7 @@ fn feed<B: Node>(
 
 // A seat takes the item.
 fn take<B: Node>(
+    alloc: Global,
     core: &mut Core<B>,
     held: &mut [Option<Work<B>>],
     unfed: &Unfed,
@@ -99,7 +100,7 @@ fn take<B: Node>(
     if at >= held.len() || held[at].is_some() {
         return Ok(false);
     }
-    let Some(taken) = core.take(seat)? else {
+    let Some(taken) = core.take(alloc, seat)? else {
         return Ok(false);
     };
     know_story(core);
@@ -256,7 +257,7 @@ pub(crate) fn follow<B: Node>(
     }
     match event {
         Event::Feed => feed(alloc, core, held, unfed),
-        Event::Take { id, seat } => take(core, held, unfed, id, seat),
+        Event::Take { id, seat } => take(alloc, core, held, unfed, id, seat),
         Event::Back { id } => Ok(back(core, held, unfed, id)),
         Event::Apply { id } => apply(alloc, core, held, unfed, id),
         Event::Stop => Ok(stop(core, unfed)),

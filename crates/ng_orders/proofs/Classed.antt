@@ -1,14 +1,13 @@
 -- Messages by their class, and orders as they are read.
-use Rattle.std.proofs.Common.{◌≡◌, ℕ, Bool, true, false, not, List, Option, Some, Result, Ok, Err, IfOk, refl, sym, ap, ◌∙◌, subst, true≢false}
+use Rattle.std.proofs.Common.{◌≡◌, ℕ, Bool, true, false, List, Option, Some, Result, Ok, Err, IfOk, refl, sym, ap, ◌∙◌, subst, true≢false}
 use Rattle.std.specs.Option.{option_map}
 use Rattle.ng_base.specs.declared.errno.Errno.{Errno}
 use Rattle.ng_base.specs.declared.kind.Kind.{Kind}
 use Rattle.ng_machine.specs.declared.body.Body.TheVariants.{Msg}
 use Rattle.ng_machine.specs.declared.item.Item.{Item}
-use Rattle.ng_machine.specs.Change.{Change}
-use Rattle.ng_machine.specs.Effect.{MessageClass, AnAnswer, AnOrder, OfKind, Foreign, class_of, effect_at, message_by}
+use Rattle.ng_machine.specs.Effect.{MessageClass, AnAnswer, AnOrder, class_of, message_by}
 use Rattle.ng_machine.specs.Generic.{carry_out, ordered_by}
-use Rattle.ng_machine.specs.Order.{Order, Question, Shutdown, Mkpeer, Connect, Rename, Rmhook, Asks, as_order, read_by_mode, read_change, read_order, read_question}
+use Rattle.ng_machine.specs.Order.{Order, Question, Shutdown, Mkpeer, Connect, Rename, Rmhook, Asks, as_order, read_by_mode, read_order, read_question}
 use Rattle.ng_machine.specs.Run.{RunState}
 use Rattle.ng_machine.specs.World.{World, NodeRecord, kind_at, node_in}
 use Rattle.ng_message.specs.Numbers.{is_reader_number}

@@ -1,7 +1,6 @@
 pub mod ChangedNodes
 pub mod ByLink
 pub mod Stepping
-pub mod CutNames
 pub mod Sprouted
 pub mod Tables
 pub mod LateLinks

@@ -1,13 +1,11 @@
 -- Worlds in which a node is changed.
-use Rattle.std.specs.Prelude.{ℕ, ◌+◌, Bool, true, if◌then◌else◌, List, [], ◌∷◌, ◌++◌, is_some, slice_set, Option, Some, None}
+use Rattle.std.specs.Prelude.{ℕ, ◌+◌, Bool, true, if◌then◌else◌, List, [], ◌∷◌, ◌++◌, is_some, slice_set, Some, None}
 use Rattle.ng_base.specs.declared.ids.LinkId.{LinkId}
 use Rattle.ng_base.specs.declared.ids.NodeId.{NodeId}
 use Rattle.ng_base.specs.declared.kind.Kind.{Kind}
 use Rattle.ng_machine.specs.declared.hook.End.{End}
-use Rattle.ng_machine.specs.declared.plan.Plan.{Plan}
-use Rattle.ng_machine.specs.State.{way_of}
 use Rattle.ng_machine.specs.Stock.{without_kind}
-use Rattle.ng_machine.specs.World.{NodeRecord, World, blank_node, link_id, linked_hook, new_hook, next_node, state_of, with_hook, without_hook}
+use Rattle.ng_machine.specs.World.{NodeRecord, World, blank_node, link_id, linked_hook, new_hook, next_node, with_hook}
 
 -- the node of this number is so
 abbrev pub with_node : World → NodeId → NodeRecord → World
@@ -37,7 +35,3 @@ with_node_if test w at node = if test then with_node w at node else w
 -- the node has the hook with this link
 abbrev pub has_link : NodeRecord → List ℕ → LinkId → Bool
 has_link node hook link = is_some (linked_hook node hook link)
-
--- the plan of the node without a hook
-abbrev pub way_without : NodeRecord → List ℕ → Option Plan
-way_without node hook = way_of (state_of (without_hook node hook))

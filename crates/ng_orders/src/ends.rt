@@ -1,12 +1,10 @@
 // A node, whose box is at home, changes, and what is kept stands for the world in which it does.
 ghost use Rattle.std.specs.Prelude.{◌≡◌, ◌<◌, true, false, None, Some, OnOk, OnErr, IfOk};
-ghost use Rattle.std.specs.Arc.{arc_value};
-ghost use Rattle.std.specs.Option.{option_map};
 ghost use Rattle.ng_machine.specs.Run.{RunState};
 ghost use Rattle.ng_machine.specs.World.{NodeRecord, bind_to, link_id, node_at, node_in, settle_hook, with_changed_hook, without_hook};
 ghost use Rattle.ng_machine.specs.Rules.{accepts_hook};
 ghost use Rattle.ng_machine.specs.Stock.{has_kind};
-ghost use Rattle.ng_orders.specs.Changed.{has_link, way_without, with_end, with_link, with_node, with_node_if, with_sprout};
+ghost use Rattle.ng_orders.specs.Changed.{has_link, with_end, with_link, with_node, with_node_if, with_sprout};
 ghost use Rattle.ng_pending.specs.Holds.{in_world};
 ghost use Rattle.ng_topology.specs.Topology.{IsAtHome, MayGetHook, is_free, name_of};
 ghost use Rattle.ng_world.specs.Stands.{Stands};
@@ -14,10 +12,8 @@ ghost use Rattle.ng_world.specs.Stands.{Stands};
 use ng_base::{Kind, LinkId, Name, NoMemory, NodeId};
 use ng_machine::End;
 use ng_node::Node;
-use ng_plan::{Plan, without};
 use ng_world::State;
 use std::alloc::Global;
-use std::sync::Arc;
 
 /// The node of an end gets the end's hook, joined to a peer.
 ///
@@ -92,47 +88,15 @@ pub fn rebind_end<B: Node>(
     state.graph.rebind(at, old, new, to)
 }
 
-/// The plan that a node, whose box is at home, has without a hook, where its type has plans.
-///
-/// # Errors
-/// `NoMemory` where memory ran out, and for nothing else.
-pub fn plan_without<B: Node>(
-    alloc: Global,
-    state: &State<B>,
-    id: NodeId,
-    hook: &Name,
-) -> Result<Option<Arc<Plan>>, NoMemory>
-    requires { IsAtHome state.now.graph id }
-    ensures { IfOk result (λ next. (node : NodeRecord) → node_in state.now.graph.nodes id ≡ Some node
-        → option_map arc_value next ≡ way_without node hook.now) }
-{
-    state.graph.soundness();
-    match state.graph.kind(id) {
-        Some(Kind::One2many) | None => Ok(None),
-        Some(_) => {
-            let plan = state.graph.plan(id)?;
-            let next = without(alloc, &plan, hook)?;
-            Ok(Some(next))
-        }
-    }
-}
-
-/// The hook of an end is taken away, if it has that link: whether it has. `next` is the node's plan without it.
-pub fn leave_end<B: Node>(
-    state: &mut State<B>,
-    at: &End,
-    link: LinkId,
-    next: Option<Arc<Plan>>,
-) -> bool
+/// The hook of an end is taken away, if it has that link: whether it has.
+pub fn leave_end<B: Node>(state: &mut State<B>, at: &End, link: LinkId) -> bool
     requires home { IsAtHome state.old.graph at.now.node }
-    requires next { (node : NodeRecord) → node_in state.old.graph.nodes at.now.node ≡ Some node
-        → option_map arc_value next ≡ way_without node at.now.hook }
     ensures answer { (node : NodeRecord) → node_in state.old.graph.nodes at.now.node ≡ Some node → result ≡ has_link node at.now.hook link }
     ensures stands { (a : RunState) (node : NodeRecord) → Stands state.old a → node_at a.world at.now.node ≡ Some node
         → Stands state.new (in_world a (with_node_if result a.world at.now.node (without_hook node at.now.hook))) }
     ensures told { state.new.told ≡ state.old.told }
 {
-    state.graph.leave(at, link, next)
+    state.graph.leave(at, link)
 }
 
 /// A node without a name gets one that no node has.

@@ -5,7 +5,7 @@ ghost use Rattle.ng_orders.specs.Orders.{joins, settles, undoes, rebinds};
 ghost use Rattle.ng_orders.specs.Steps.{MayStep, StandsOn, Steps};
 ghost use Rattle.ng_topology.specs.Topology.{IsAtHome};
 
-use crate::ends::{add_joined, leave_end, plan_without, rebind_end, settle_end};
+use crate::ends::{add_joined, leave_end, rebind_end, settle_end};
 use crate::pieces::{finish, finish_accepted};
 use ng_base::{Errno, LinkId, Name};
 use ng_machine::{Body, End, Item};
@@ -92,9 +92,6 @@ pub fn apply_undo<B: Node>(
     ensures err { OnErr result (StandsOn state.old state.new) }
     ensures back { IfErr result (λ it. it ≡ item) }
 {
-    let Ok(next) = plan_without(alloc, state, item.to, &hook) else {
-        return Err(item);
-    };
     if widen_told(state, 1).is_err() {
         return Err(item);
     }
@@ -103,7 +100,7 @@ pub fn apply_undo<B: Node>(
         node: item.to,
         hook,
     };
-    if !leave_end(state, &at, link, next) {
+    if !leave_end(state, &at, link) {
         return Ok(());
     }
     refuse(state, alloc, item.tag, errno);

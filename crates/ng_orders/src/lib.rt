@@ -16,7 +16,7 @@ mod refusal;
 pub use answering::{apply_answer, apply_question};
 pub use asking::Question;
 pub use connecting::apply_connect;
-pub use ends::{leave_end, plan_without};
+pub use ends::leave_end;
 pub use gone::{apply_gone, apply_nothing};
 pub use inside::{Inside, apply_link};
 pub use joining::{apply_join, apply_rebind, apply_settle, apply_undo};

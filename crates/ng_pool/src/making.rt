@@ -44,6 +44,7 @@ fn feed<B: Node>(
 
 // A seat that has nothing takes an item.
 fn take<B: Node>(
+    alloc: Global,
     core: &mut Core<B>,
     held: &mut [Option<Work<B>>],
     seat: u32,
@@ -62,7 +63,7 @@ fn take<B: Node>(
     if at >= held.len() || held[at].is_some() {
         return Ok(false);
     }
-    let Some(taken) = core.take(seat)? else {
+    let Some(taken) = core.take(alloc, seat)? else {
         return Ok(false);
     };
     know_story(core);
@@ -155,7 +156,7 @@ pub(crate) fn make_move<B: Node>(
 {
     match one {
         Move::Feed => Ok(feed(alloc, core, held, unfed)?),
-        Move::Take { seat } => Ok(take(core, held, seat)?),
+        Move::Take { seat } => Ok(take(alloc, core, held, seat)?),
         Move::Back { seat } => Ok(put_back(core, held, seat)),
         Move::Apply { seat } => Ok(apply(alloc, core, held, seat)?),
     }

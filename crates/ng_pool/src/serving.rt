@@ -79,7 +79,7 @@ pub(crate) fn serve_next<B: Node>(
     if core.serve(alloc, 0, outcome)? {
         return Ok(true);
     }
-    let Some(taken) = core.take(0)? else {
+    let Some(taken) = core.take(alloc, 0)? else {
         return Ok(false);
     };
     finish(alloc, core, 0, taken)?;

@@ -11,7 +11,7 @@ use crate::room::widen_for_drops;
 use ng_base::{Errno, LinkId, Name};
 use ng_machine::{End, Item};
 use ng_node::Node;
-use ng_orders::{finish, leave_end, plan_without};
+use ng_orders::{finish, leave_end};
 use ng_step::{refuse, widen, widen_told};
 use ng_world::State;
 use std::alloc::Global;
@@ -43,11 +43,8 @@ pub fn apply_leave<B: Node>(
         return Ok(None);
     }
     if stays_without(state, item.to, &hook) {
-        let Ok(next) = plan_without(alloc, state, item.to, &hook) else {
-            return Err(item);
-        };
         finish(state, &item);
-        leave_end(state, &at, link, next);
+        leave_end(state, &at, link);
         return Ok(None);
     }
     if widen_for_drops(state, item.to).is_err() {
@@ -87,15 +84,12 @@ pub fn apply_rmhook<B: Node>(
         return Err(item);
     }
     if stays_without(state, item.to, &hook) {
-        let Ok(next) = plan_without(alloc, state, item.to, &hook) else {
-            return Err(item);
-        };
         ask_peer(state, &item, &end);
         let at = End {
             node: item.to,
             hook,
         };
-        leave_end(state, &at, end.link, next);
+        leave_end(state, &at, end.link);
         return Ok(None);
     }
     if widen_for_drops(state, item.to).is_err() {

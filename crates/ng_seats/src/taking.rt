@@ -15,6 +15,7 @@ use crate::Core;
 use ng_base::{Event, NoMemory};
 use ng_node::Node;
 use ng_world::{State, Work};
+use std::alloc::Global;
 
 // What a seat took goes back to its place, and a box to its node.
 fn put_back<B: Node>(state: &mut State<B>, work: Work<B>)
@@ -47,7 +48,7 @@ impl<B: Node> Core<B> {
     ///
     /// # Errors
     /// `NoMemory` where memory ran out; nothing changed.
-    pub fn take(&mut self, seat: u32) -> Result<Option<Work<B>>, NoMemory>
+    pub fn take(&mut self, alloc: Global, seat: u32) -> Result<Option<Work<B>>, NoMemory>
         requires seat { seat < self.old.seats }
         requires idle { story_job (story self.old) seat ≡ Idle }
         ensures taken { IfOk result (λ o. IfSome o (λ work. story self.new ≡ with_event (story self.old) (Take seat (item_of work).id))) }
@@ -63,7 +64,7 @@ impl<B: Node> Core<B> {
         }
         let parts = &mut *self.parts;
         parts.journal.reserve(parts.state.pending.out as usize + 3)?;
-        let Some(work) = parts.state.take(seat)? else {
+        let Some(work) = parts.state.take(alloc, seat)? else {
             return Ok(None);
         };
         parts.journal.push_reserved(Event::Take {

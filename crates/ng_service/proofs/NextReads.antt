@@ -1,5 +1,5 @@
 -- A packet that is next.
-use Rattle.std.proofs.Common.{◌≡◌, ◌∙◌, ◌&&◌, Bool, true, false, refl, sym, ap, subst}
+use Rattle.std.proofs.Common.{◌≡◌, ◌∙◌, ◌&&◌, Bool, true, false, is_some, refl, sym, ap, subst, true≢false}
 use Rattle.std.specs.declared.option.Option.{Option}
 use Rattle.std.specs.declared.option.Option.TheVariants.{None, Some}
 use Rattle.ng_machine.specs.declared.body.Body.{Body}
@@ -9,10 +9,10 @@ use Rattle.ng_machine.specs.declared.item.Item.{Item}
 use Rattle.ng_machine.specs.declared.outcome.Outcome.{Outcome}
 use Rattle.ng_machine.specs.declared.plan.Plan.{Plan}
 use Rattle.ng_machine.specs.Body.{is_frame}
-use Rattle.ng_machine.specs.Desk.{Reads, body_job, is_of_kind, job_at, job_of, job_unless_gone, learn_job, writes_if}
+use Rattle.ng_machine.specs.Desk.{Reads, body_job, frame_job, is_of_kind, job_at, job_of, job_unless_gone, learn_job, writes_if}
 use Rattle.ng_machine.specs.Effect.{class_of, is_hook_gone}
 use Rattle.ng_machine.specs.Run.{RunState}
-use Rattle.ng_machine.specs.State.{State as NodeState}
+use Rattle.ng_machine.specs.State.{State as NodeState, way_of}
 use Rattle.ng_machine.specs.World.{NodeRecord, kind_at, linked_hook, node_at, state_of}
 use Rattle.ng_pending.specs.Holds.{with_taken}
 use Rattle.ng_pending.proofs.HeldItems.{next_held, out_next}
@@ -24,8 +24,9 @@ use Rattle.ng_story.specs.Work.{IsEvaluated}
 use Rattle.ng_topology.specs.Topology.{is_home}
 use Rattle.ng_world.specs.declared.state.State.{State}
 use Rattle.ng_world.specs.Stands.{Stands}
+use Rattle.ng_world.proofs.ServedItems.{head_node}
 use Rattle.ng_world.proofs.TakenItems.{item_node, least_home, least_node, same_some}
-use Rattle.ng_service.specs.Work.{IsReadAt}
+use Rattle.ng_service.specs.Work.{IsForPlanAt, IsReadAt}
 
 -- WHAT A PLAN WORKS ON IS A PACKET
 
@@ -57,6 +58,24 @@ reads_frame item None plan e = absurd (cc)
 reads_frame item (Some node) plan e = reads_unless (is_hook_gone (Some node) item.body) item node plan e
 
 -- THE HEAD OF THE QUEUE THAT IS THE LEAST
+
+planned_frame : (item : Item) (found : Option NodeRecord) (state : NodeState) (o : Option Plan) → is_some o ≡ true → job_at item found ≡ frame_job item state o → is_frame item.body ≡ true
+planned_frame item found state None there job = absurd (true≢false (sym there))
+planned_frame item found state (Some plan) there job = reads_frame item found plan job
+
+pub head_frame : {B : Type 0} (s : State B) (a : RunState) (at : _) (item : Item) → Stands s a → IsLeast s.pending.queues.lists at → head (list_at s.pending.queues.lists at) ≡ Some item → IsForPlanAt s at → is_frame item.body ≡ true
+head_frame s a at item S least e reads =
+    let P = head_node s a at item S least e in
+    let R = reads a item P.node S e P.node_is in
+    planned_frame item (node_at a.world item.to) (state_of P.node) (way_of (state_of P.node)) R.planned R.job_is
+
+-- the head's job, by the plan of its node
+pub head_job : {B : Type 0} (s : State B) (a : RunState) (at : _) (item : Item) (plan : Plan) → Stands s a → IsLeast s.pending.queues.lists at → head (list_at s.pending.queues.lists at) ≡ Some item → IsForPlanAt s at
+    → ((node : NodeRecord) → node_at a.world item.to ≡ Some node → way_of (state_of node) ≡ Some plan) → job_of a.world item ≡ Reads item plan
+head_job s a at item plan S least e reads way =
+    let P = head_node s a at item S least e in
+    let R = reads a item P.node S e P.node_is in
+    R.job_is ∙ ap (frame_job item (state_of P.node)) (way P.node P.node_is)
 
 pub head_read : {B : Type 0} (s : State B) (a : RunState) (at : _) (item : Item) (plan : Plan) (outcome : Outcome) → Stands s a → IsLeast s.pending.queues.lists at → head (list_at s.pending.queues.lists at) ≡ Some item
     → job_of a.world item ≡ Reads item plan → IsEvaluated plan item.body outcome → (node : NodeRecord) × (node_at a.world item.to ≡ Some node) × IsReadAt item node outcome

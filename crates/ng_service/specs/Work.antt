@@ -11,7 +11,7 @@ use Rattle.ng_machine.specs.declared.plan.Plan.{Plan}
 use Rattle.ng_machine.specs.Desk.{Reads, Writes, job_at, job_of}
 use Rattle.ng_machine.specs.Run.{RunState}
 use Rattle.ng_machine.specs.State.{State as NodeState}
-use Rattle.ng_machine.specs.World.{NodeRecord, kind_at}
+use Rattle.ng_machine.specs.World.{NodeRecord, kind_at, node_at}
 use Rattle.ng_pending.specs.Holds.{with_taken}
 use Rattle.ng_queue.specs.Queue.{head}
 use Rattle.ng_queue.specs.Queues.{list_at}
@@ -19,6 +19,7 @@ use Rattle.ng_step.specs.Applied.{applied_from}
 use Rattle.ng_story.specs.Story.{IsNext}
 use Rattle.ng_story.specs.Work.{IsEvaluated, IsWritten}
 use Rattle.ng_world.specs.declared.state.State.{State}
+use Rattle.ng_world.specs.Handed.{IsForPlan}
 use Rattle.ng_world.specs.Stands.{Stands}
 
 -- the item is a packet for the node's plan, and this is what came of it
@@ -39,6 +40,11 @@ pub record IsOwnAt (item : Item) (node : NodeRecord) : Type 0 where
   pub body : item.body ≡ Msg msg
   pub own : class_of (kind_at node) msg ≡ OfKind
   pub reads : is_reader_number msg.header.cmd ≡ true
+
+-- the head of that queue is a packet that its node's plan works on
+abbrev pub IsForPlanAt : {B : Type 0} → State B → ℕ → Type 0
+IsForPlanAt s at = (a : RunState) (item : Item) (node : NodeRecord) → Stands s a → head (list_at s.pending.queues.lists at) ≡ Some item
+    → node_at a.world item.to ≡ Some node → IsForPlan item node (job_of a.world item)
 
 -- the packet of this number is at the head of that queue, and this is what its node's plan makes of it
 pub record IsWorkedOn {B : Type 0} (a : RunState) (s : State B) (at : ℕ) (id : ItemId) (outcome : Outcome) : Type 0 where

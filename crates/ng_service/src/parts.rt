@@ -1,10 +1,7 @@
 // The parts of a step, each with what stays as it was.
 ghost use Rattle.std.specs.Prelude.{◌≡◌, ℕ, ◌+◌, ◌≤◌, slice_set, length, Some};
-ghost use Rattle.std.specs.Arc.{arc_value};
-ghost use Rattle.std.specs.Option.{option_map};
 ghost use Rattle.ng_machine.specs.Case.{absorb};
 ghost use Rattle.ng_machine.specs.Run.{RunState};
-ghost use Rattle.ng_machine.specs.State.{way_of};
 ghost use Rattle.ng_machine.specs.World.{NodeRecord, node_at};
 ghost use Rattle.ng_machine.specs.declared.item.Item.{Item as TheItem};
 ghost use Rattle.ng_pending.specs.Holds.{IsOutIn, done_from, in_world, with_taken};
@@ -18,10 +15,8 @@ ghost use Rattle.ng_world.specs.Stands.{IsStanding, MayLeave, Stands};
 use ng_base::NodeId;
 use ng_machine::{Counts, Item};
 use ng_node::Node;
-use ng_plan::Plan;
 use ng_queue::BoxedItem;
 use ng_world::State;
-use std::sync::Arc;
 
 /// A taken item is done.
 pub fn finish<B: Node>(state: &mut State<B>, item: &Item)
@@ -73,11 +68,10 @@ pub fn absorb<B: Node>(state: &mut State<B>, at: NodeId, counts: &Counts)
     state.graph.absorb(at, counts);
 }
 
-/// A box comes home, with what it keeps then and the plan that stands for it.
-pub fn bring_home<B: Node>(state: &mut State<B>, at: NodeId, node: B, plan: Option<Arc<Plan>>)
+/// A box comes home, with what it keeps then.
+pub fn bring_home<B: Node>(state: &mut State<B>, at: NodeId, node: B)
     requires there { IsThere state.old.graph at }
     requires fits { FitsNodeAt state.old.graph at (B.state node) }
-    requires next { option_map arc_value plan ≡ way_of (B.state node) }
     ensures stands { (a : RunState) (was : NodeRecord) → Stands state.old a → node_at a.world at ≡ Some was
         → Stands state.new (in_world a (record a.world { nodes = slice_set a.world.nodes at.0 (Some (with_kept (B.state node).kept was)) })) }
     ensures graph { state.new.graph ≡ give_box state.old.graph at (B.state node) }
@@ -85,7 +79,7 @@ pub fn bring_home<B: Node>(state: &mut State<B>, at: NodeId, node: B, plan: Opti
     ensures told { state.new.told ≡ state.old.told }
     ensures ports { state.new.ports ≡ state.old.ports }
 {
-    state.graph.give(at, node, plan);
+    state.graph.give(at, node);
 }
 
 /// An item that is applied is dropped, and its place kept for another.

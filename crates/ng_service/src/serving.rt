@@ -15,7 +15,7 @@ ghost use Rattle.ng_step.specs.Applied.{applied_from};
 ghost use Rattle.ng_story.specs.Story.{IsNext};
 ghost use Rattle.ng_story.specs.Work.{IsEvaluated};
 ghost use Rattle.ng_world.specs.Stands.{Stands};
-ghost use Rattle.ng_service.specs.Work.{IsReadAt, IsServed, IsWorkedOn};
+ghost use Rattle.ng_service.specs.Work.{IsForPlanAt, IsReadAt, IsServed, IsWorkedOn};
 
 use crate::conclusion::{is_short, target};
 use crate::emptying::clear;
@@ -97,35 +97,61 @@ fn serve_read<B: Node>(
     Ok(())
 }
 
-// What its node's plan makes of the packet that is next, put into an outcome that has nothing yet: its queue and its number; none
-// where what is next is anything else.
-fn work_on_next<B: Node>(
+// What the plan that its node keeps makes of the packet at the head of that queue, put into an outcome that has nothing yet: the
+// packet's number; none where no plan was made since the node last changed.
+fn work_by_kept_plan<B: Node>(
     alloc: Global,
     state: &State<B>,
+    at: usize,
     outcome: &mut Outcome,
-) -> Result<Option<(usize, ItemId)>, NoMemory>
+) -> Result<Option<ItemId>, NoMemory>
     requires standing { (a : RunState) × Stands state.now a }
+    requires least { IsLeast state.now.pending.queues.lists at }
+    requires job { IsForPlanAt state.now at }
     requires blank { outcome.old ≡ nothing }
-    ensures least { IfOk result (λ o. IfSome o (λ x. IsLeast state.now.pending.queues.lists x.0)) }
-    ensures work { IfOk result (λ o. IfSome o (λ x. (a : RunState) → Stands state.now a → IsWorkedOn a state.now x.0 x.1 outcome.new)) }
-    ensures none { IfOk result (λ o. IfNone o ((a : RunState) (item : TheItem) (plan : ThePlan) → Stands state.now a
-        → IsNext a item → job_of a.world item ≡ Reads item plan → ⊥)) }
+    ensures work { IfOk result (λ o. IfSome o (λ id. (a : RunState) → Stands state.now a → IsWorkedOn a state.now at id outcome.new)) }
     ensures same { IfOk result (λ o. IfNone o (outcome.new ≡ outcome.old)) }
 {
-    let Some((at, plan)) = state.next_read() else {
+    let head = state.pending.head(at);
+    let Some(plan) = state.graph.peek_plan(head.to) else {
         return Ok(None);
     };
-    let head = state.pending.head(at);
     evaluate_into(alloc, head, plan, outcome)?;
-    Ok(Some((at, head.id)))
+    Ok(Some(head.id))
+}
+
+// What its node's plan makes of the packet at the head of that queue, put into an outcome that has nothing yet: the packet's
+// number.
+fn work_on<B: Node>(
+    alloc: Global,
+    state: &mut State<B>,
+    at: usize,
+    outcome: &mut Outcome,
+) -> Result<ItemId, NoMemory>
+    requires standing { (a : RunState) × Stands state.old a }
+    requires least { IsLeast state.old.pending.queues.lists at }
+    requires job { IsForPlanAt state.old at }
+    requires blank { outcome.old ≡ nothing }
+    ensures work { IfOk result (λ id. (a : RunState) → Stands state.old a → IsWorkedOn a state.old at id outcome.new) }
+    ensures same { state.new ≡ state.old }
+{
+    if let Some(id) = work_by_kept_plan(alloc, state, at, outcome)? {
+        return Ok(id);
+    }
+    let plan = state.plan_at(alloc, at)?;
+    let head = state.pending.head(at);
+    evaluate_into(alloc, head, &plan, outcome)?;
+    Ok(head.id)
 }
 
 /// Takes the item that is next, works on it and applies it at once, where it is a packet that a plan works on: its number. What
 /// is kept stands then for the run in which the seat took it and handed in what its plan made of it, but the item was never out.
-/// What the plan makes of it goes through `outcome`, which has nothing before and after.
+/// What the plan makes of it goes through `outcome`, which has nothing before and after. The plan is made where none was since the
+/// node last changed.
 ///
 /// # Errors
-/// `NoMemory` where memory ran out, and for nothing else; nothing but room changed, and the outcome may have anything.
+/// `NoMemory` where memory ran out, or the plan is shared more often than can be counted; nothing but room changed, and the
+/// outcome may have anything.
 pub fn serve<B: Node>(
     alloc: Global,
     state: &mut State<B>,
@@ -141,9 +167,10 @@ pub fn serve<B: Node>(
     ensures blank { OnOk result (outcome.new ≡ nothing) }
     ensures err { OnErr result ((a : RunState) → Stands state.old a → Stands state.new a) }
 {
-    let Some((at, id)) = work_on_next(alloc, state, outcome)? else {
+    let Some(at) = state.next_read() else {
         return Ok(None);
     };
+    let id = work_on(alloc, state, at, outcome)?;
     serve_read(alloc, state, at, seat, outcome)?;
     Ok(Some(id))
 }

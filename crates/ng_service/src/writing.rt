@@ -34,13 +34,10 @@ fn apply_write_item<B: Node>(
     if !is_short(&outcome.answer) {
         return Err((node, outcome));
     }
-    let Ok(plan) = node.plan(alloc) else {
-        return Err((node, outcome));
-    };
     let Ok(()) = make_room(state, item.to, &outcome, target(item, &outcome)) else {
         return Err((node, outcome));
     };
-    bring_home(state, item.to, node, plan);
+    bring_home(state, item.to, node);
     finish(state, item);
     conclude(alloc, state, item, &mut outcome);
     Ok(())

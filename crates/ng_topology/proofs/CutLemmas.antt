@@ -1,12 +1,12 @@
 -- The hooks of a box are cut one after another, until it has none.
-use Rattle.std.proofs.Common.{◌≡◌, ℕ, ◌+◌, ◌<◌, Bool, true, cond, not, Option, List, [], ◌∷◌, length, map, get_or, sym, ap, subst, ◌∙◌}
+use Rattle.std.proofs.Common.{◌≡◌, ℕ, ◌+◌, ◌<◌, Bool, true, cond, not, Option, None, List, [], ◌∷◌, length, map, get_or, sym, ap, subst, ◌∙◌}
 use Rattle.std.specs.Prelude.{◌||◌, drop}
 use Rattle.std.proofs.lemmas.List.{drop_more}
 use Rattle.ng_base.specs.Names.{has_name, without_name}
 use Rattle.ng_base.specs.declared.kind.Kind.{Kind}
 use Rattle.ng_machine.specs.declared.hook.Hook.{Hook}
 use Rattle.ng_machine.specs.declared.plan.Plan.{Plan}
-use Rattle.ng_machine.specs.State.{State, cut_hook, kept_without_hooks, kind_of, way_of}
+use Rattle.ng_machine.specs.State.{State, cut_hook, kept_without_hooks, kind_of}
 use Rattle.ng_machine.proofs.Owed.{cut_all_kind}
 use Rattle.ng_hooks.specs.Hooks.{NamesDiffer}
 use Rattle.ng_topology.specs.NodeEntry.{IsConsistent, without_all}
@@ -53,15 +53,9 @@ pub cut_next : (was now : State) (hooks : List Hook) (i : ℕ) (hook : Hook) →
 cut_next was now hooks i hook lt is differ names cut =
     let e = rest_of hooks i hook lt is in cut_first was now hook (drop (i + 1) hooks) (subst NamesDiffer e differ) (ap (map (λ h. h.name)) (sym e) ∙ names) cut
 
--- none is left
-pub cut_done : (was now : State) → [] ≡ now.hooks → without_all now ≡ without_all was → now ≡ without_all was
-cut_done was now none same =
-    ap (λ (l : List (List ℕ)). record { hooks = l; kept = now.kept }) (sym none) ∙ ap (λ (l : List (List ℕ)). record { hooks = []; kept = kept_without_hooks now.kept l }) none ∙ same
-
-pub consistent_cleared : (kind : Kind) (was now : State) (hooks after : List Hook) (plan next : Option Plan) → IsConsistent kind was hooks plan → now ≡ without_all was → after ≡ []
-    → next ≡ way_of (record { hooks = []; kept = kept_without_hooks was.kept (map (λ h. h.name) hooks) }) → IsConsistent kind now after next
-consistent_cleared kind was now hooks after plan next consistent is none planned = record {
+pub consistent_cleared : (kind : Kind) (was now : State) (hooks after : List Hook) (plan : Option Plan) → IsConsistent kind was hooks plan → now ≡ without_all was → after ≡ [] → IsConsistent kind now after None
+consistent_cleared kind was now hooks after plan consistent is none = record {
   kind = ap kind_of is ∙ cut_all_kind was.kept was.hooks ∙ consistent.kind;
   hooks = ap (map (λ h. h.name)) none ∙ sym (ap (λ (s : State). s.hooks) is);
-  planned = planned ∙ ap (λ (l : List (List ℕ)). way_of (record { hooks = []; kept = kept_without_hooks was.kept l })) consistent.hooks ∙ sym (ap way_of is);
+  planned = tt;
 }

@@ -1,5 +1,4 @@
 pub mod NodeLemmas
-pub mod PlanLemmas
 pub mod StockLemmas
 pub mod PlaceLemmas
 pub mod NameLemmas

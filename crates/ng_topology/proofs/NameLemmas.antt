@@ -252,12 +252,6 @@ pub consistent_if : (b : Bool) (p now : NodePlaces) (stock : List Kind) (m : Ind
 consistent_if true p now stock m id f keeps is c = consistent_change p now stock m id f keeps (ap (λ (x : NodePlaces). x.nodes) is) (ap (λ (x : NodePlaces). x.room) is) c
 consistent_if false p now stock m id f keeps is c = subst (λ (x : NodePlaces). IsConsistent x stock m) (sym is) c
 
-pub consistent_same : (p now : NodePlaces) (stock : List Kind) (m : Index) → now.nodes ≡ p.nodes → now.room ≡ p.room → IsConsistent p stock m → IsConsistent now stock m
-consistent_same p now stock m nodes room c = record {
-  room = room_kept p now stock (let few = c.room.few in let as_many : length now.nodes ≡ length p.nodes = ap (λ (l : Nodes). length l) nodes in omega arith) room c.room;
-  names = subst (λ (l : Nodes). AreIndexed l m) (sym nodes) c.names;
-}
-
 -- one more node
 few_push : (p now : NodePlaces) (node : NodeRecord) → now.nodes ≡ p.nodes ++ Some node ∷ [] → now.room + 1 ≡ p.room → length p.nodes + p.room ≤ 4000000001 → length now.nodes + now.room ≤ 4000000001
 few_push p now node nodes room few =

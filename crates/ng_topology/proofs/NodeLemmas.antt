@@ -1,6 +1,6 @@
 -- The hooks of a node and their names.
-use Rattle.std.proofs.Common.{◌≡◌, ℕ, Bool, true, false, cond, List, [], ◌∷◌, ◌++◌, map, find, is_some, Option, Some, None, refl, ap, sym, ◌∙◌, inl, inr}
-use Rattle.std.specs.Prelude.{All, IsOk, Result, Ok, Err}
+use Rattle.std.proofs.Common.{◌≡◌, ℕ, Bool, true, false, cond, List, [], ◌∷◌, ◌++◌, map, find, is_some, Option, Some, None, IfSome, refl, ap, sym, ◌∙◌, inl, inr}
+use Rattle.std.specs.Prelude.{IsOk, Result, Ok, Err}
 use Rattle.std.specs.Str.{bytes_eq}
 use Rattle.std.proofs.lemmas.Bool.{cases_Bool}
 use Rattle.ng_base.specs.Names.{has_name, without_name}
@@ -14,12 +14,10 @@ use Rattle.ng_machine.specs.Stock.{has_kind}
 use Rattle.ng_machine.specs.Rules.{accepts_hook, may_of}
 use Rattle.ng_machine.specs.World.{NodeRecord, node_in, kind_at, has_hook, is_named, change_hook, settle_hook, bind_to}
 use Rattle.ng_machine.specs.declared.plan.Plan.{Plan}
-use Rattle.ng_machine.specs.State.{State, KindState, HubState, HoleState, EchoState, SplitState, SocketState, TeeState, One2manyState, BridgeState, VlanState, PatchState, BpfState, EtherState, EtfState, MacsetState, kind_of, kind_of_kept, blank_of, add_hook, cut_hook, kept_without_hook, way_of}
+use Rattle.ng_machine.specs.State.{State, KindState, HubState, HoleState, EchoState, SplitState, SocketState, TeeState, One2manyState, BridgeState, VlanState, PatchState, BpfState, EtherState, EtfState, MacsetState, kind_of, kind_of_kept, add_hook, cut_hook, way_of}
 use Rattle.ng_machine.specs.Counters.{Count}
 use Rattle.ng_machine.specs.Case.{absorb}
 use Rattle.ng_machine.proofs.Owed.{made_kind, cut_kind, absorb_way}
-use Rattle.std.proofs.lemmas.List.Elements.{All-push}
-use Rattle.ng_topology.proofs.StockLemmas.{blank_kind}
 use Rattle.ng_hooks.specs.Hooks.{without_named, is_linked}
 use Rattle.ng_topology.specs.NodeEntry.{IsConsistent, AcceptsHook}
 use Rattle.ng_topology.specs.Topology.{Topology, MayGetHook}
@@ -92,22 +90,24 @@ takes_may kind hook is = may_if kind hook (accepts_hook kind hook) refl is
 
 -- WHAT AN ENTRY SAYS AFTER A HOOK WAS MADE OR CUT
 
-pub consistent_added : (kind : Kind) (was now : State) (hooks after : List Hook) (plan next : Option Plan) (hook : Hook) → IsConsistent kind was hooks plan → now ≡ add_hook was hook.name → after ≡ hooks ++ hook ∷ [] → next ≡ way_of now → IsConsistent kind now after next
-consistent_added kind was now hooks after plan next hook consistent is more planned = record {
+pub consistent_added : (kind : Kind) (was now : State) (hooks after : List Hook) (plan : Option Plan) (hook : Hook) → IsConsistent kind was hooks plan → now ≡ add_hook was hook.name → after ≡ hooks ++ hook ∷ [] → IsConsistent kind now after None
+consistent_added kind was now hooks after plan hook consistent is more = record {
   kind = ap kind_of is ∙ made_kind was.kept hook.name ∙ consistent.kind;
   hooks = ap (map (λ h. h.name)) more ∙ names_push hooks was.hooks hook consistent.hooks ∙ sym (ap (λ (s : State). s.hooks) is);
-  planned = planned;
+  planned = tt;
 }
 
-pub consistent_cut : (kind : Kind) (was now : State) (hooks after : List Hook) (plan next : Option Plan) (name : List ℕ) → IsConsistent kind was hooks plan → now ≡ cut_hook was name → after ≡ without_named name hooks
-    → next ≡ way_of (record { hooks = map (λ h. h.name) (without_named name hooks); kept = kept_without_hook was.kept name }) → IsConsistent kind now after next
-consistent_cut kind was now hooks after plan next name consistent is less planned =
-    let names = names_without name hooks was.hooks consistent.hooks in
-    record {
-      kind = ap kind_of is ∙ cut_kind was.kept name ∙ consistent.kind;
-      hooks = ap (map (λ h. h.name)) less ∙ names ∙ sym (ap (λ (s : State). s.hooks) is);
-      planned = planned ∙ ap (λ (l : List (List ℕ)). way_of (record { hooks = l; kept = kept_without_hook was.kept name })) names ∙ sym (ap way_of is);
-    }
+pub consistent_cut : (kind : Kind) (was now : State) (hooks after : List Hook) (plan : Option Plan) (name : List ℕ) → IsConsistent kind was hooks plan → now ≡ cut_hook was name → after ≡ without_named name hooks → IsConsistent kind now after None
+consistent_cut kind was now hooks after plan name consistent is less = record {
+  kind = ap kind_of is ∙ cut_kind was.kept name ∙ consistent.kind;
+  hooks = ap (map (λ h. h.name)) less ∙ names_without name hooks was.hooks consistent.hooks ∙ sym (ap (λ (s : State). s.hooks) is);
+  planned = tt;
+}
+
+-- a plan that is one state's is that of another with the same way
+planned_same : (was now : State) (plan : Option Plan) → way_of now ≡ way_of was → IfSome plan (λ p. way_of was ≡ Some p) → IfSome plan (λ p. way_of now ≡ Some p)
+planned_same was now None same planned = tt
+planned_same was now (Some p) same planned = same ∙ planned
 
 -- WHAT AN ENTRY SAYS AFTER ITS BOX CAME HOME AS IT WENT, OR COUNTED
 
@@ -115,7 +115,7 @@ pub consistent_restored : (kind : Kind) (was now : State) (hooks : List Hook) (p
 consistent_restored kind was now hooks plan consistent is = record {
   kind = ap kind_of is ∙ consistent.kind;
   hooks = sym (ap (λ (s : State). s.hooks) is);
-  planned = consistent.planned ∙ ap (λ (l : List (List ℕ)). way_of (record { hooks = l; kept = was.kept })) (sym consistent.hooks) ∙ sym (ap way_of is);
+  planned = planned_same was now plan (ap way_of is ∙ ap (λ (l : List (List ℕ)). way_of (record { hooks = l; kept = was.kept })) consistent.hooks) consistent.planned;
 }
 
 -- to move to ng_machine
@@ -139,7 +139,7 @@ pub consistent_absorbed : (kind : Kind) (was now : State) (hooks : List Hook) (p
 consistent_absorbed kind was now hooks plan counts consistent is = record {
   kind = ap kind_of is ∙ absorb_kind was.kept counts ∙ consistent.kind;
   hooks = consistent.hooks ∙ sym (ap (λ (s : State). s.hooks) is);
-  planned = consistent.planned ∙ sym (absorb_way was.kept was.hooks counts) ∙ sym (ap way_of is);
+  planned = planned_same was now plan (ap way_of is ∙ absorb_way was.kept was.hooks counts) consistent.planned;
 }
 
 -- WHERE `may` ANSWERS OK
@@ -163,7 +163,3 @@ left_if kinds kind hook false is may = absurd (cc may)
 -- a blank box is left and takes the hook
 pub blank_may_gets : (t : Topology) (kind : Kind) (hook : List ℕ) (r : Result Unit Errno) → r ≡ Ok tt → r ≡ cond (has_kind t.stock kind) (may_of kind hook) (Err enfile) → (has_kind t.stock kind ≡ true) × (accepts_hook kind hook ≡ true)
 blank_may_gets t kind hook r ok is = left_if t.stock kind hook (has_kind t.stock kind) refl (sym is ∙ ok)
-
--- one more blank box behind blank ones
-pub blank_push : {X : Type 0} (state : X → State) (boxes : List X) (b : X) (kind : Kind) → All (λ x. state x ≡ blank_of (kind_of (state x))) boxes → state b ≡ blank_of kind → All (λ x. state x ≡ blank_of (kind_of (state x))) (boxes ++ b ∷ [])
-blank_push state boxes b kind all is = All-push (λ x. state x ≡ blank_of (kind_of (state x))) boxes b all (is ∙ ap blank_of (sym (blank_kind kind)) ∙ ap (λ (s : State). blank_of (kind_of s)) (sym is))

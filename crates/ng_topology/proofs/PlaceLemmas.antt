@@ -1,5 +1,5 @@
 -- Nodes and homes of entries in their places.
-use Rattle.std.proofs.Common.{◌≡◌, ℕ, zero, suc, Bool, true, false, cond, List, [], ◌∷◌, ◌++◌, map, length, get_or, set, Option, Some, None, refl, sym, ap, ◌∙◌, ◌<◌, inl, inr, subst, arith}
+use Rattle.std.proofs.Common.{◌≡◌, ℕ, zero, suc, Bool, true, false, cond, List, [], ◌∷◌, ◌++◌, map, length, get_or, set, Option, Some, None, refl, sym, ap, ◌∙◌, ◌<◌, inl, inr, arith}
 use Rattle.std.proofs.Math.ListN.{get_or-map}
 use Rattle.std.proofs.lemmas.List.{map-set}
 use Rattle.std.specs.Option.{option_map}
@@ -8,7 +8,8 @@ use Rattle.ng_base.specs.declared.ids.NodeId.{NodeId}
 use Rattle.std.proofs.lemmas.Bool.{cases_Bool}
 use Rattle.std.specs.Str.{bytes_eq}
 use Rattle.ng_machine.specs.declared.hook.Hook.{Hook}
-use Rattle.ng_machine.specs.State.{State}
+use Rattle.ng_machine.specs.declared.plan.Plan.{Plan}
+use Rattle.ng_machine.specs.State.{way_of}
 use Rattle.ng_machine.specs.World.{NodeRecord, node_in, with_hook, without_hook, state_of, is_named}
 use Rattle.ng_topology.specs.NodeEntry.{NodeEntry, with_node}
 use Rattle.ng_topology.specs.NodePlaces.{NodePlaces, places_as}
@@ -137,6 +138,12 @@ there_inside [] i there = absurd (cc there)
 there_inside (x ∷ entries) zero there = omega arith
 there_inside (x ∷ entries) (suc i) there = let below = there_inside entries i there in omega arith
 
+-- the plan of the entry at a place is that of the node there
+pub plan_of_entry : {A E : Type 0} (entries : List (Option NodeEntry)) (id : NodeId) (e : NodeEntry) → get_or entries id.0 None ≡ Some e → (r : Result A E) (plan : A → Plan) → IfOk r (λ a. way_of (state_of e.node) ≡ Some (plan a))
+    → IfOk r (λ a. (node : NodeRecord) → node_in (map node_of entries) id ≡ Some node → way_of (state_of node) ≡ Some (plan a))
+plan_of_entry entries id e at (Ok a) plan is = λ node there. ap (λ (n : NodeRecord). way_of (state_of n)) (sym (only_node entries id e node at there)) ∙ is
+plan_of_entry entries id e at (Err x) plan is = tt
+
 -- A HOOK THAT IS ADDED CAN BE TAKEN BACK
 
 got_after : (nodes : List (Option NodeRecord)) (i : ℕ) (node now : NodeRecord) → get_or nodes i None ≡ Some node → get_or (set nodes i (Some now)) i None ≡ Some now
@@ -162,17 +169,6 @@ module _ (entries : List (Option NodeEntry)) (id : NodeId) (e now : NodeEntry) (
 
   node_after : now ≡ with_node e (with_hook e.node hook) → node_in (map node_of (set entries id.0 (Some now))) id ≡ Some (with_hook e.node hook)
   node_after is = ap (λ (l : List (Option NodeRecord)). node_in l id) (nodes_after is) ∙ got_after (map node_of entries) id.0 e.node (with_hook e.node hook) (entry_node entries id e at)
-
-  node_back : (node : NodeRecord) → without_hook (with_hook e.node hook) hook.name ≡ e.node → now ≡ with_node e (with_hook e.node hook) → node_in (map node_of (set entries id.0 (Some now))) id ≡ Some node → e.node ≡ without_hook node hook.name
-  node_back node back is there =
-      let some : Some (with_hook e.node hook) ≡ Some node = sym (node_after is) ∙ there in
-      let same : with_hook e.node hook ≡ node = cc some in
-      sym back ∙ ap (λ (r : NodeRecord). without_hook r hook.name) same
-
-  pub back_plans : {A E : Type 0} (r : Result A E) (P : A → State → Type 0) → OnOk r (without_hook (with_hook e.node hook) hook.name ≡ e.node) → OnOk r (now ≡ with_node e (with_hook e.node hook)) → IfOk r (λ a. P a (state_of e.node))
-      → IfOk r (λ a. (node : NodeRecord) → node_in (map node_of (set entries id.0 (Some now))) id ≡ Some node → P a (state_of (without_hook node hook.name)))
-  back_plans (Ok a) P back is was = λ node there. subst (λ (x : NodeRecord). P a (state_of x)) (node_back node back is there) was
-  back_plans (Err x) P back is was = tt
 
   undone_after : without_hook (with_hook e.node hook) hook.name ≡ e.node → now ≡ with_node e (with_hook e.node hook) → change_at (map node_of (set entries id.0 (Some now))) id (λ node. without_hook node hook.name) ≡ map node_of entries
   undone_after back is =

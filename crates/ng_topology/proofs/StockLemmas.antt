@@ -1,5 +1,5 @@
 -- The first of a kind among things that have kinds, and boxes of which one gets a hook.
-use Rattle.std.proofs.Common.{◌≡◌, ℕ, zero, suc, ◌+◌, ◌<◌, true, false, List, [], ◌∷◌, length, map, get_or, set, is_some, Option, Some, None, IfSome, IfNone, refl, ap, sym, subst, ◌∙◌, inl, inr, arith}
+use Rattle.std.proofs.Common.{◌≡◌, ℕ, zero, suc, ◌+◌, ◌<◌, true, false, List, [], ◌∷◌, length, map, get_or, set, Option, Some, None, IfSome, IfNone, refl, ap, sym, subst, ◌∙◌, inl, inr, arith}
 use Rattle.std.specs.List.{position_from}
 use Rattle.std.proofs.lemmas.Bool.{cases_Bool}
 use Rattle.std.proofs.lemmas.Bool.Decides.{Decides-eqb}
@@ -78,10 +78,6 @@ module _ {X : Type 0} (f : X → Kind) (kind : Kind) where
   pub place_if_none : (xs : List X) (o : Option ℕ) → o ≡ position_from (λ x. same_kind (f x) kind) 0 xs → IfNone o (has_kind (map f xs) kind ≡ false)
   place_if_none xs None is = no_place xs 0 (sym is)
   place_if_none xs (Some i) is = tt
-
-  pub has_by_place : (xs : List X) (o : Option ℕ) → IfSome o (IsFirstOf f xs kind) → IfNone o (has_kind (map f xs) kind ≡ false) → is_some o ≡ has_kind (map f xs) kind
-  has_by_place xs None some none = sym none
-  has_by_place xs (Some i) some none = sym some.there
 
 -- a blank node is of its kind
 pub blank_kind : (kind : Kind) → kind_of_kept (blank_kept kind) ≡ kind

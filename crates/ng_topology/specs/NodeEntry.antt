@@ -1,6 +1,6 @@
 -- A node as the graph holds it: its record, and whether its box is at home. While the box is lent the record has what the box
 -- kept when it went.
-use Rattle.std.specs.Prelude.{◌≡◌, ℕ, Bool, true, false, List, [], map, Option, Some, None}
+use Rattle.std.specs.Prelude.{◌≡◌, ℕ, Bool, true, false, List, [], map, IfSome, Option, Some, None}
 use Rattle.ng_base.specs.declared.kind.Kind.{Kind}
 use Rattle.ng_machine.specs.declared.hook.Hook.{Hook}
 use Rattle.ng_machine.specs.declared.plan.Plan.{Plan}
@@ -20,11 +20,12 @@ state_in state (Some box) was = state box
 abbrev pub entry_as : Option (List ℕ) → State → List Hook → Bool → NodeEntry
 entry_as name state hooks home = record { node = record { name = name; kept = state.kept; hooks = hooks }; home = home }
 
--- what the fields of an entry say: the kind and the names of the hooks are those of the state, and the plan is the state's
+-- what the fields of an entry say: the kind and the names of the hooks are those of the state, and a plan that was made is the
+-- state's
 pub record IsConsistent (its_kind : Kind) (state : State) (its_hooks : List Hook) (plan : Option Plan) : Type 0 where
   pub kind : kind_of state ≡ its_kind
   pub hooks : map (λ h. h.name) its_hooks ≡ state.hooks
-  pub planned : plan ≡ way_of state
+  pub planned : IfSome plan (λ p. way_of state ≡ Some p)
 
 -- a box of which all hooks are cut
 abbrev pub without_all : State → State

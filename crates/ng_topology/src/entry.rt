@@ -1,7 +1,7 @@
 // A node as the graph holds it.
-ghost use Rattle.std.specs.Prelude.{◌≡◌, true, false, if◌then◌else◌, map, find, is_some, IsSome, IfOk, OnOk, OnErr, Some, None, Err};
+ghost use Rattle.std.specs.Prelude.{◌≡◌, true, false, if◌then◌else◌, map, find, is_some, IsSome, IfOk, IfSome, OnOk, OnErr, Some, None, Err};
 ghost use Rattle.std.specs.Arc.{arc_value};
-ghost use Rattle.std.specs.Option.{option_map, option_copied};
+ghost use Rattle.std.specs.Option.{option_copied};
 ghost use Rattle.ng_machine.specs.Errors.{eexist};
 ghost use Rattle.ng_machine.specs.Case.{absorb};
 ghost use Rattle.ng_machine.specs.Rules.{may_of};
@@ -11,7 +11,6 @@ ghost use Rattle.ng_hooks.specs.Hooks.{NamesDiffer};
 ghost use Rattle.ng_topology.specs.NodeEntry.{AcceptsHook, entry_as, with_node, without_all};
 ghost use Rattle.ng_topology.specs.Topology.{FitsNode, with_kept};
 
-use crate::plans::hook_and_plan;
 use ng_base::{Errno, Kind, LinkId, Name, NoMemory};
 use ng_hooks::Hooks;
 use ng_machine::{Counts, End, Hook};
@@ -19,11 +18,11 @@ use ng_node::Node;
 use ng_plan::Plan;
 use std::alloc::Global;
 use std::marker::Model;
-use std::mem;
 use std::snapshot::Snapshot;
 use std::sync::Arc;
 
-/// A node, its name and its hooks, with its box while that is at home, and its plan, which a one2many has not.
+/// A node, its name and its hooks, with its box while that is at home, and its plan, where one was made since the node last
+/// changed. A one2many has none.
 ///
 /// A contract sees the node as the machine's world has it, and whether the box is at home. While it is lent the node
 /// keeps what the box kept when it went.
@@ -65,15 +64,8 @@ fn cut_all<B: Node>(node: &mut B, hooks: &[Hook])
 impl<B: Node> Entry<B> {
     /// A blank node of the kind, with a name or without.
     #[tactic(auto, using(crate::proofs::StockLemmas::blank_kind))]
-    pub fn blank(
-        alloc: Global,
-        name: Option<Name>,
-        node: B,
-        kind: Kind,
-        plan: Option<Arc<Plan>>,
-    ) -> Self
+    pub fn blank(alloc: Global, name: Option<Name>, node: B, kind: Kind) -> Self
         requires blank { B.state node ≡ blank_of kind }
-        requires planned { option_map arc_value plan ≡ way_of (blank_of kind) }
         ensures { result ≡ record { node = blank_node name kind; home = true } }
     {
         let was = Snapshot::of(&node);
@@ -83,15 +75,14 @@ impl<B: Node> Entry<B> {
             hooks: Hooks::new(alloc),
             home: Some(node),
             was,
-            plan,
+            plan: None,
         }
     }
 
     /// A node of the kind without a name, with its hooks.
-    pub fn with_hooks(kind: Kind, hooks: Hooks, node: B, plan: Option<Arc<Plan>>) -> Self
+    pub fn with_hooks(kind: Kind, hooks: Hooks, node: B) -> Self
         requires kind { kind_of (B.state node) ≡ kind }
         requires hooks { map (λ h. h.name) hooks ≡ (B.state node).hooks }
-        requires planned { option_map arc_value plan ≡ way_of (B.state node) }
         ensures { result ≡ entry_as None (B.state node) hooks true }
     {
         let was = Snapshot::of(&node);
@@ -101,7 +92,7 @@ impl<B: Node> Entry<B> {
             hooks,
             home: Some(node),
             was,
-            plan,
+            plan: None,
         }
     }
 
@@ -175,50 +166,70 @@ impl<B: Node> Entry<B> {
         }
     }
 
-    /// The plan, shared, of a node that has one.
+    // The plan is made, where none was since the node last changed.
+    fn make_plan(&mut self, alloc: Global) -> Result<Arc<Plan>, NoMemory>
+        requires home { self.old.home ≡ true }
+        requires planned { IsSome (way_of (state_of self.old.node)) }
+        ensures plan { IfOk result (λ plan. way_of (state_of self.old.node) ≡ Some (arc_value plan)) }
+        ensures same { self.new ≡ self.old }
+    {
+        let Some(node) = &self.home else {
+            unreachable!()
+        };
+        let Some(plan) = node.plan(alloc)? else {
+            unreachable!()
+        };
+        self.plan = Some(Arc::try_clone(&plan)?);
+        Ok(plan)
+    }
+
+    /// The plan, shared, of a node that has one and whose box is at home. It is made where none was since the node last changed.
     ///
     /// # Errors
-    /// `NoMemory` where the plan is shared more often than can be counted.
-    pub fn plan(&self) -> Result<Arc<Plan>, NoMemory>
-        requires { IsSome (way_of (state_of self.now.node)) }
-        ensures { IfOk result (λ plan. way_of (state_of self.now.node) ≡ Some (arc_value plan)) }
+    /// `NoMemory` where memory ran out, or the plan is shared more often than can be counted; the node is as before in any case.
+    pub fn plan(&mut self, alloc: Global) -> Result<Arc<Plan>, NoMemory>
+        requires home { self.old.home ≡ true }
+        requires planned { IsSome (way_of (state_of self.old.node)) }
+        ensures plan { IfOk result (λ plan. way_of (state_of self.old.node) ≡ Some (arc_value plan)) }
+        ensures same { self.new ≡ self.old }
     {
         match &self.plan {
             Some(plan) => Ok(Arc::try_clone(plan)?),
-            None => unreachable!(),
+            None => self.make_plan(alloc),
         }
     }
 
-    /// The plan of a node that has one, to be looked at.
-    pub fn peek_plan(&self) -> &Plan
-        requires { IsSome (way_of (state_of self.now.node)) }
-        ensures { way_of (state_of self.now.node) ≡ Some result.now }
+    /// The plan, to be looked at, where one was made since the node last changed.
+    pub fn peek_plan(&self) -> Option<&Plan>
+        ensures { IfSome result (λ plan. way_of (state_of self.now.node) ≡ Some plan.now) }
     {
         match &self.plan {
-            Some(plan) => plan,
-            None => unreachable!(),
+            Some(plan) => Some(plan),
+            None => None,
         }
     }
 
-    /// Adds a hook that the type takes and the node lacks, and gives the plan that the node had before. Its box is at home.
+    /// Adds a hook that the type takes and the node lacks. Its box is at home.
     ///
     /// # Errors
     /// `NoMemory` where memory ran out, and for nothing else; the node is then as before.
     #[tactic(auto, using(ng_hooks::proofs::HookLemmas::added_removed, crate::proofs::NodeLemmas::lacks_hook, crate::proofs::NodeLemmas::lacks_names, crate::proofs::NodeLemmas::takes_may, crate::proofs::NodeLemmas::names_push))]
-    pub fn add(&mut self, alloc: Global, hook: Hook) -> Result<Option<Arc<Plan>>, NoMemory>
+    pub fn add(&mut self, alloc: Global, hook: Hook) -> Result<(), NoMemory>
         requires home { self.old.home ≡ true }
         requires takes { AcceptsHook self.old.node hook.name }
         ensures ok { OnOk result (self.new ≡ with_node self.old (with_hook self.old.node hook)) }
         ensures undone { OnOk result (without_hook (with_hook self.old.node hook) hook.name ≡ self.old.node) }
-        ensures was { IfOk result (λ was. option_map arc_value was ≡ way_of (state_of self.old.node)) }
         ensures err { OnErr result (self.new ≡ self.old) }
     {
         let Some(node) = &mut self.home else {
             unreachable!()
         };
         self.hooks.push(hook)?;
-        match hook_and_plan(alloc, node, &hook.name) {
-            Ok(next) => Ok(mem::replace(&mut self.plan, next)),
+        match node.newhook(alloc, &hook.name) {
+            Ok(()) => {
+                self.plan = None;
+                Ok(())
+            }
             Err(why) => {
                 self.hooks.remove(&hook.name);
                 Err(why)
@@ -233,12 +244,10 @@ impl<B: Node> Entry<B> {
         self.hooks.is_linked(name, link)
     }
 
-    /// Takes the hook of that name away, if there is one with that link: whether there was. Its box is at home, and `next`
-    /// is the plan that the node has then.
+    /// Takes the hook of that name away, if there is one with that link: whether there was. Its box is at home.
     #[tactic(auto, using(crate::proofs::NodeLemmas::linked_has, crate::proofs::NodeLemmas::names_without))]
-    pub fn leave(&mut self, name: &Name, link: LinkId, next: Option<Arc<Plan>>) -> bool
+    pub fn leave(&mut self, name: &Name, link: LinkId) -> bool
         requires home { self.old.home ≡ true }
-        requires next { option_map arc_value next ≡ way_of (state_of (without_hook self.old.node name.now)) }
         ensures answer { result ≡ is_some (linked_hook self.old.node name.now link) }
         ensures after { self.new ≡ (if result then with_node self.old (without_hook self.old.node name.now) else self.old) }
     {
@@ -249,15 +258,14 @@ impl<B: Node> Entry<B> {
             };
             node.cut(name);
             self.hooks.remove(name);
-            self.plan = next;
+            self.plan = None;
         }
         is_linked
     }
 
-    /// Takes all hooks away. Its box is at home, and `next` is the plan that the node has then.
-    pub fn clear(&mut self, next: Option<Arc<Plan>>)
+    /// Takes all hooks away. Its box is at home.
+    pub fn clear(&mut self)
         requires home { self.old.home ≡ true }
-        requires next { option_map arc_value next ≡ way_of (state_of (without_hooks self.old.node)) }
         ensures { self.new ≡ with_node self.old (without_hooks self.old.node) }
     {
         let Some(node) = &mut self.home else {
@@ -265,7 +273,7 @@ impl<B: Node> Entry<B> {
         };
         cut_all(node, self.hooks.as_slice());
         self.hooks.clear();
-        self.plan = next;
+        self.plan = None;
     }
 
     /// Lets packets out of the hook of that name, if there is one with that link: whether there was.
@@ -316,14 +324,13 @@ impl<B: Node> Entry<B> {
         }
     }
 
-    /// Brings a box home, in place of one that is there: one of the node's kind and with its hooks. `next` is its plan.
-    pub fn give(&mut self, node: B, next: Option<Arc<Plan>>)
+    /// Brings a box home, in place of one that is there: one of the node's kind and with its hooks.
+    pub fn give(&mut self, node: B)
         requires fits { FitsNode self.old.node (B.state node) }
-        requires next { option_map arc_value next ≡ way_of (B.state node) }
         ensures { self.new ≡ record { node = with_kept (B.state node).kept self.old.node; home = true } }
     {
         self.home = Some(node);
-        self.plan = next;
+        self.plan = None;
     }
 
     /// Brings the box home as it went: the node keeps its plan.

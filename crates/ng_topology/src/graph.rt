@@ -1,5 +1,5 @@
 // The graph.
-ghost use Rattle.std.specs.Prelude.{◌≡◌, ◌↔◌, ◌+◌, ◌<◌, ◌≤◌, All, true, false, if◌then◌else◌, length, map, is_some, IfOk, IsOk, OnOk, OnErr, IsSome, Some, None, Ok, Err};
+ghost use Rattle.std.specs.Prelude.{◌≡◌, ◌↔◌, ◌+◌, ◌<◌, ◌≤◌, All, true, false, if◌then◌else◌, length, map, is_some, IfOk, IsOk, IfSome, OnOk, OnErr, IsSome, Some, None, Ok, Err};
 ghost use Rattle.std.specs.Arc.{arc_value};
 ghost use Rattle.std.specs.Option.{option_map, option_copied};
 ghost use Rattle.ng_machine.specs.Case.{absorb};
@@ -272,30 +272,27 @@ impl<B: Node> Graph<B> {
         }
     }
 
-    /// The plan of a node that is there and has one, which all but a one2many have; it is shared.
+    /// The plan of a node whose box is at home and which has one, as all but a one2many have; it is shared. It is made where none
+    /// was since the node last changed.
     ///
     /// # Errors
-    /// `NoMemory` where the plan is shared more often than can be counted.
-    pub fn plan(&self, id: NodeId) -> Result<Arc<Plan>, NoMemory>
-        requires there { IsThere self.now id }
-        requires planned { (node : NodeRecord) → node_in self.now.nodes id ≡ Some node → IsSome (way_of (state_of node)) }
-        ensures { IfOk result (λ plan. (node : NodeRecord) → node_in self.now.nodes id ≡ Some node → way_of (state_of node) ≡ Some (arc_value plan)) }
+    /// `NoMemory` where memory ran out, or the plan is shared more often than can be counted.
+    pub fn plan(&mut self, alloc: Global, id: NodeId) -> Result<Arc<Plan>, NoMemory>
+        requires home { IsAtHome self.old id }
+        requires planned { (node : NodeRecord) → node_in self.old.nodes id ≡ Some node → IsSome (way_of (state_of node)) }
+        ensures plan { IfOk result (λ plan. (node : NodeRecord) → node_in self.old.nodes id ≡ Some node → way_of (state_of node) ≡ Some (arc_value plan)) }
+        ensures same { self.new ≡ self.old }
     {
-        match self.places.entry(id) {
-            Some(entry) => entry.plan(),
-            None => unreachable!(),
-        }
+        self.places.plan(alloc, id)
     }
 
-    /// The plan of a node that is there and has one, to be looked at.
-    pub fn peek_plan(&self, id: NodeId) -> &Plan
-        requires there { IsThere self.now id }
-        requires planned { (node : NodeRecord) → node_in self.now.nodes id ≡ Some node → IsSome (way_of (state_of node)) }
-        ensures { (node : NodeRecord) → node_in self.now.nodes id ≡ Some node → way_of (state_of node) ≡ Some result.now }
+    /// The plan of the node of that number, to be looked at, where the node is there and a plan was made since it last changed.
+    pub fn peek_plan(&self, id: NodeId) -> Option<&Plan>
+        ensures { IfSome result (λ plan. (node : NodeRecord) → node_in self.now.nodes id ≡ Some node → way_of (state_of node) ≡ Some plan.now) }
     {
         match self.places.entry(id) {
             Some(entry) => entry.peek_plan(),
-            None => unreachable!(),
+            None => None,
         }
     }
 
@@ -335,15 +332,13 @@ impl<B: Node> Graph<B> {
         self.places.lend(id)
     }
 
-    /// Brings a box home, in place of one that is there, of the node's kind and with its hooks. `next` is the node's plan: there is one exactly
-    /// where the kind has plans, and it stands for the box's state. It takes no memory.
-    pub fn give(&mut self, id: NodeId, node: B, next: Option<Arc<Plan>>)
+    /// Brings a box home, in place of one that is there, of the node's kind and with its hooks. It takes no memory.
+    pub fn give(&mut self, id: NodeId, node: B)
         requires there { IsThere self.old id }
         requires fits { FitsNodeAt self.old id (B.state node) }
-        requires next { option_map arc_value next ≡ way_of (B.state node) }
         ensures { self.new ≡ give_box self.old id (B.state node) }
     {
-        self.places.give(id, node, next);
+        self.places.give(id, node);
     }
 
     /// Brings a lent box home as it went: with the state that the node has, whose plan stays. It takes no memory.
@@ -394,24 +389,21 @@ impl<B: Node> Graph<B> {
         self.places.rebind(at.node, &at.hook, old, new, *to)
     }
 
-    /// Takes the hook away from a node, whose box is at home, if the hook has that link: whether it has. `next` is the plan
-    /// that the node has then. It takes no memory.
-    pub fn leave(&mut self, at: &End, link: LinkId, next: Option<Arc<Plan>>) -> bool
+    /// Takes the hook away from a node, whose box is at home, if the hook has that link: whether it has. It takes no memory.
+    pub fn leave(&mut self, at: &End, link: LinkId) -> bool
         requires home { IsAtHome self.old at.now.node }
-        requires next { (node : NodeRecord) → node_in self.old.nodes at.now.node ≡ Some node → option_map arc_value next ≡ way_of (state_of (without_hook node at.now.hook)) }
         ensures answer { result ≡ is_end self.old at.now link }
         ensures after { self.new ≡ (if result then change_node self.old at.now.node (λ node. without_hook node at.now.hook) else self.old) }
     {
-        self.places.leave(at.node, &at.hook, link, next)
+        self.places.leave(at.node, &at.hook, link)
     }
 
-    /// Takes all hooks away from a node, whose box is at home. `next` is the plan that the node has then. It takes no memory.
-    pub fn clear(&mut self, id: NodeId, next: Option<Arc<Plan>>)
+    /// Takes all hooks away from a node, whose box is at home. It takes no memory.
+    pub fn clear(&mut self, id: NodeId)
         requires home { IsAtHome self.old id }
-        requires next { (node : NodeRecord) → node_in self.old.nodes id ≡ Some node → option_map arc_value next ≡ way_of (state_of (without_hooks node)) }
         ensures { self.new ≡ change_node self.old id without_hooks }
     {
-        self.places.clear(id, next);
+        self.places.clear(id);
     }
 
     /// Adds a hook to a node, whose box is at home and which may get it, joined to a peer by that link.
@@ -425,7 +417,7 @@ impl<B: Node> Graph<B> {
         ensures err { OnErr result (self.new ≡ self.old) }
     {
         let hook = hook_to(at.hook, link, *to, true);
-        let _was = self.places.add(alloc, at.node, hook)?;
+        self.places.add(alloc, at.node, hook)?;
         Ok(())
     }
 
@@ -443,7 +435,7 @@ impl<B: Node> Graph<B> {
     {
         let link = LinkId(self.next_link);
         let hook = hook_to(at.hook, link, *to, false);
-        let _was = self.places.add(alloc, at.node, hook)?;
+        self.places.add(alloc, at.node, hook)?;
         self.next_link += 1;
         Ok(link)
     }
@@ -468,9 +460,6 @@ impl<B: Node> Graph<B> {
         if !self.stock.has(kind) {
             return Err(MakeFault::Used);
         }
-        let Ok(plan) = self.stock.plan(alloc, kind) else {
-            return Err(MakeFault::NoMemory);
-        };
         let id = NodeId(self.places.len() as u32);
         let Ok(()) = enter_name(&mut self.names, &name, id) else {
             return Err(MakeFault::NoMemory);
@@ -478,8 +467,7 @@ impl<B: Node> Graph<B> {
         let Some(node) = self.stock.take(kind) else {
             unreachable!()
         };
-        self.places
-            .push(Entry::blank(alloc, name, node, kind, plan));
+        self.places.push(Entry::blank(alloc, name, node, kind));
         Ok(id)
     }
 
@@ -512,16 +500,15 @@ impl<B: Node> Graph<B> {
             hook: *hook,
         };
         let ours = hook_to(at.hook, link, peer, true);
-        let was = self.places.add(alloc, at.node, ours)?;
+        self.places.add(alloc, at.node, ours)?;
         match self.stock.take_with_hook(alloc, kind, hook) {
-            Ok((node, plan)) => {
-                drop(was);
-                self.places.push(Entry::with_hooks(kind, hooks, node, plan));
+            Ok(node) => {
+                self.places.push(Entry::with_hooks(kind, hooks, node));
                 self.next_link += 1;
                 Ok(id)
             }
             Err(why) => {
-                self.places.leave(at.node, &at.hook, link, was);
+                self.places.leave(at.node, &at.hook, link);
                 Err(why)
             }
         }

@@ -6,7 +6,6 @@ mod graph;
 mod laws;
 mod names;
 mod places;
-mod plans;
 mod stock;
 
 pub use entry::Entry;

@@ -96,23 +96,17 @@ impl<B: Node> Places<B> {
         self.room -= 1;
     }
 
-    /// Adds a hook to a node whose box is at home, and gives the plan that it had before.
+    /// Adds a hook to a node whose box is at home.
     ///
     /// # Errors
     /// `NoMemory` where memory ran out, and for nothing else; the node is then as before.
     #[tactic(auto, using(crate::proofs::PlaceLemmas::home_inside))]
-    pub fn add(
-        &mut self,
-        alloc: Global,
-        id: NodeId,
-        hook: Hook,
-    ) -> Result<Option<Arc<Plan>>, NoMemory>
+    pub fn add(&mut self, alloc: Global, id: NodeId, hook: Hook) -> Result<(), NoMemory>
         requires home { slice_index_or self.old.home id.0 false ≡ true }
         requires takes { (node : NodeRecord) → node_in self.old.nodes id ≡ Some node → AcceptsHook node hook.name }
         ensures ok { OnOk result (self.new ≡ record self.old { nodes = change_at self.old.nodes id (λ node. with_hook node hook) }) }
 
-        // Right after, the hook can be taken back with that plan.
-        ensures was { IfOk result (λ was. (node : NodeRecord) → node_in self.new.nodes id ≡ Some node → option_map arc_value was ≡ way_of (state_of (without_hook node hook.name))) }
+        // Right after, the hook can be taken back.
         ensures linked { OnOk result (is_some (linked_hook_at (node_in self.new.nodes id) hook.name hook.link) ≡ true) }
         ensures undone { OnOk result (change_at self.new.nodes id (λ node. without_hook node hook.name) ≡ self.old.nodes) }
         ensures err { OnErr result (self.new ≡ self.old) }
@@ -123,30 +117,44 @@ impl<B: Node> Places<B> {
         }
     }
 
-    /// Takes a hook away from a node whose box is at home, if it has that link: whether it has. `next` is the plan that the
-    /// node has then.
+    /// Takes a hook away from a node whose box is at home, if it has that link: whether it has.
     #[tactic(auto, using(crate::proofs::PlaceLemmas::home_inside))]
-    pub fn leave(&mut self, id: NodeId, name: &Name, link: LinkId, next: Option<Arc<Plan>>) -> bool
+    pub fn leave(&mut self, id: NodeId, name: &Name, link: LinkId) -> bool
         requires home { slice_index_or self.old.home id.0 false ≡ true }
-        requires next { (node : NodeRecord) → node_in self.old.nodes id ≡ Some node → option_map arc_value next ≡ way_of (state_of (without_hook node name.now)) }
         ensures answer { result ≡ is_some (linked_hook_at (node_in self.old.nodes id) name.now link) }
         ensures after { self.new ≡ (if result then record self.old { nodes = change_at self.old.nodes id (λ node. without_hook node name.now) } else self.old) }
     {
         match &mut self.entries[id.0 as usize] {
-            Some(entry) => entry.leave(name, link, next),
+            Some(entry) => entry.leave(name, link),
             None => unreachable!(),
         }
     }
 
-    /// Takes all hooks away from a node whose box is at home. `next` is the plan that the node has then.
+    /// Takes all hooks away from a node whose box is at home.
     #[tactic(auto, using(crate::proofs::PlaceLemmas::home_inside))]
-    pub fn clear(&mut self, id: NodeId, next: Option<Arc<Plan>>)
+    pub fn clear(&mut self, id: NodeId)
         requires home { slice_index_or self.old.home id.0 false ≡ true }
-        requires next { (node : NodeRecord) → node_in self.old.nodes id ≡ Some node → option_map arc_value next ≡ way_of (state_of (without_hooks node)) }
         ensures { self.new ≡ record self.old { nodes = change_at self.old.nodes id without_hooks } }
     {
         match &mut self.entries[id.0 as usize] {
-            Some(entry) => entry.clear(next),
+            Some(entry) => entry.clear(),
+            None => unreachable!(),
+        }
+    }
+
+    /// The plan, shared, of a node that has one and whose box is at home. It is made where none was since the node last changed.
+    ///
+    /// # Errors
+    /// `NoMemory` where memory ran out, or the plan is shared more often than can be counted.
+    #[tactic(auto, using(crate::proofs::PlaceLemmas::home_inside))]
+    pub fn plan(&mut self, alloc: Global, id: NodeId) -> Result<Arc<Plan>, NoMemory>
+        requires home { slice_index_or self.old.home id.0 false ≡ true }
+        requires planned { (node : NodeRecord) → node_in self.old.nodes id ≡ Some node → IsSome (way_of (state_of node)) }
+        ensures plan { IfOk result (λ plan. (node : NodeRecord) → node_in self.old.nodes id ≡ Some node → way_of (state_of node) ≡ Some (arc_value plan)) }
+        ensures same { self.new ≡ self.old }
+    {
+        match &mut self.entries[id.0 as usize] {
+            Some(entry) => entry.plan(alloc),
             None => unreachable!(),
         }
     }
@@ -202,16 +210,15 @@ impl<B: Node> Places<B> {
         }
     }
 
-    /// Brings a box home, in place of one that is there: one of the node's kind and with its hooks. `next` is the node's plan.
+    /// Brings a box home, in place of one that is there: one of the node's kind and with its hooks.
     #[tactic(auto, using(crate::proofs::PlaceLemmas::there_inside))]
-    pub fn give(&mut self, id: NodeId, node: B, next: Option<Arc<Plan>>)
+    pub fn give(&mut self, id: NodeId, node: B)
         requires there { IsSome (node_in self.old.nodes id) }
         requires fits { (it : NodeRecord) → node_in self.old.nodes id ≡ Some it → FitsNode it (B.state node) }
-        requires next { option_map arc_value next ≡ way_of (B.state node) }
         ensures { self.new ≡ record self.old { nodes = change_at self.old.nodes id (with_kept (B.state node).kept); home = slice_set self.old.home id.0 true } }
     {
         match &mut self.entries[id.0 as usize] {
-            Some(entry) => entry.give(node, next),
+            Some(entry) => entry.give(node),
             None => unreachable!(),
         }
     }

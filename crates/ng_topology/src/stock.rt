@@ -1,22 +1,17 @@
 // The blank nodes that are left.
 ghost use Rattle.std.specs.Prelude.{◌≡◌, ◌+◌, All, map, length, true, false, if◌then◌else◌, IfOk, IfSome, IfNone, OnSome, OnOk, OnErr, IsOk, Ok, Err};
-ghost use Rattle.std.specs.Arc.{arc_value};
 ghost use Rattle.std.specs.List.{position_from};
-ghost use Rattle.std.specs.Option.{option_map};
 ghost use Rattle.ng_base.specs.Kind.{same_kind};
 ghost use Rattle.ng_machine.specs.Errors.{enfile};
 ghost use Rattle.ng_machine.specs.Rules.{accepts_hook, may_of};
-ghost use Rattle.ng_machine.specs.State.{kind_of, blank_of, add_hook, way_of};
+ghost use Rattle.ng_machine.specs.State.{kind_of, blank_of, add_hook};
 ghost use Rattle.ng_machine.specs.Stock.{has_kind, without_kind};
 ghost use Rattle.ng_topology.specs.FirstOfKind.{IsFirstOf};
 
-use crate::plans::hook_and_plan;
 use ng_base::{Errno, Kind, Name, NoMemory};
 use ng_node::Node;
-use ng_plan::Plan;
 use std::alloc::Global;
 use std::marker::Model;
-use std::sync::Arc;
 
 /// Blank nodes, in the order in which they were handed in. A contract sees their kinds.
 #[derive(Drop)]
@@ -73,21 +68,6 @@ impl<B: Node> Stock<B> {
         }
     }
 
-    /// The plan of a blank node of the kind, which a one2many has not. One of the kind is left.
-    ///
-    /// # Errors
-    /// `NoMemory` where memory ran out, and for nothing else.
-    #[tactic(auto, using(crate::proofs::StockLemmas::all_blank))]
-    pub fn plan(&self, alloc: Global, kind: Kind) -> Result<Option<Arc<Plan>>, NoMemory>
-        requires { has_kind self.now kind ≡ true }
-        ensures { IfOk result (λ next. option_map arc_value next ≡ way_of (blank_of kind)) }
-    {
-        let Some(place) = place_of(&self.boxes, kind) else {
-            unreachable!()
-        };
-        self.boxes[place].plan(alloc)
-    }
-
     /// Whether a node of the kind is left.
     pub fn has(&self, kind: Kind) -> bool
         ensures { result ≡ has_kind self.now kind }
@@ -110,21 +90,15 @@ impl<B: Node> Stock<B> {
         Some(self.boxes.remove(place))
     }
 
-    /// Takes the first node of the kind out, with one hook, and its plan. One of the kind is left, and the kind takes the
+    /// Takes the first node of the kind out, with one hook. One of the kind is left, and the kind takes the
     /// name.
     ///
     /// # Errors
     /// `NoMemory` where memory ran out, and for nothing else; the nodes are then as before.
-    pub fn take_with_hook(
-        &mut self,
-        alloc: Global,
-        kind: Kind,
-        hook: &Name,
-    ) -> Result<(B, Option<Arc<Plan>>), NoMemory>
+    pub fn take_with_hook(&mut self, alloc: Global, kind: Kind, hook: &Name) -> Result<B, NoMemory>
         requires left { has_kind self.old kind ≡ true }
         requires takes { accepts_hook kind hook.now ≡ true }
-        ensures node { IfOk result (λ r. B.state r.0 ≡ add_hook (blank_of kind) hook.now) }
-        ensures planned { IfOk result (λ r. option_map arc_value r.1 ≡ way_of (B.state r.0)) }
+        ensures node { IfOk result (λ node. B.state node ≡ add_hook (blank_of kind) hook.now) }
         ensures rest { OnOk result (self.new ≡ without_kind self.old kind) }
         ensures fewer { OnOk result (length self.new + 1 ≡ length self.old) }
         ensures err { OnErr result (self.new ≡ self.old) }
@@ -132,8 +106,7 @@ impl<B: Node> Stock<B> {
         let Some(place) = place_of(&self.boxes, kind) else {
             unreachable!()
         };
-        let next = hook_and_plan(alloc, &mut self.boxes[place], hook)?;
-        let node = self.boxes.remove(place);
-        Ok((node, next))
+        self.boxes[place].newhook(alloc, hook)?;
+        Ok(self.boxes.remove(place))
     }
 }

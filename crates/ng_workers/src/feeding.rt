@@ -74,7 +74,7 @@ fn close<B: Node>(core: &mut Core<B>, unfed: &Unfed) -> Next<Work<B>>
 }
 
 // Takes an item, or closes the core where nothing is left to do.
-fn take_or_close<B: Node>(core: &mut Core<B>, unfed: &Unfed) -> Next<Work<B>>
+fn take_or_close<B: Node>(alloc: Global, core: &mut Core<B>, unfed: &Unfed) -> Next<Work<B>>
     requires running { has_ended (story core.old) ≡ false }
     requires fits { IsOpenFor unfed.now (core_desk core.old 0) }
     requires stays { (core_desk core.old 0).gave_up ≡ false }
@@ -84,7 +84,7 @@ fn take_or_close<B: Node>(core: &mut Core<B>, unfed: &Unfed) -> Next<Work<B>>
     ensures others { Others 0 (story core.old) (story core.new) }
 {
     core.journal();
-    match take_next(core, 0) {
+    match take_next(alloc, core, 0) {
         Next::Taken(taken) => Next::Taken(taken),
         Next::Nothing => close(core, unfed),
         Next::End => Next::End,
@@ -106,7 +106,7 @@ fn feed_and_take<B: Node>(alloc: Global, core: &mut Core<B>, unfed: &mut Unfed) 
         return quit(core, 0);
     }
     match feed_all(alloc, core, unfed) {
-        Ok(()) => take_or_close(core, unfed),
+        Ok(()) => take_or_close(alloc, core, unfed),
         Err(NoMemory) => {
             core.journal();
             quit(core, 0)

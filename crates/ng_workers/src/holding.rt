@@ -94,7 +94,7 @@ pub(crate) fn quit<B: Node>(core: &mut Core<B>, seat: u32) -> Next<Work<B>>
 
 /// What is to be done next by a seat that has nothing, in a core that hasn't ended: the item of the least number that may be
 /// taken, or nothing. Where memory runs out the seat gives up.
-pub(crate) fn take_next<B: Node>(core: &mut Core<B>, seat: u32) -> Next<Work<B>>
+pub(crate) fn take_next<B: Node>(alloc: Global, core: &mut Core<B>, seat: u32) -> Next<Work<B>>
     requires seat { seat < core.old.seats }
     requires running { has_ended (story core.old) ≡ false }
     requires stays { (core_desk core.old seat).gave_up ≡ false }
@@ -105,7 +105,7 @@ pub(crate) fn take_next<B: Node>(core: &mut Core<B>, seat: u32) -> Next<Work<B>>
     ensures grew { Grew (core_desk core.old seat) (core_desk core.new seat) }
     ensures others { Others seat (story core.old) (story core.new) }
 {
-    match core.take(seat) {
+    match core.take(alloc, seat) {
         Ok(Some(taken)) => {
             know_work(core, seat);
             Next::Taken(taken)
@@ -116,7 +116,7 @@ pub(crate) fn take_next<B: Node>(core: &mut Core<B>, seat: u32) -> Next<Work<B>>
 }
 
 // The same in any core: a seat that finds the core failed gives up too, and where it was closed the seat is over.
-fn go_on<B: Node>(core: &mut Core<B>, seat: u32) -> Next<Work<B>>
+fn go_on<B: Node>(alloc: Global, core: &mut Core<B>, seat: u32) -> Next<Work<B>>
     requires seat { seat < core.old.seats }
     requires stays { (core_desk core.old seat).gave_up ≡ false }
     requires idle { (core_desk core.old seat).job ≡ Idle }
@@ -130,7 +130,7 @@ fn go_on<B: Node>(core: &mut Core<B>, seat: u32) -> Next<Work<B>>
     if core.ended() {
         return Next::End;
     }
-    take_next(core, seat)
+    take_next(alloc, core, seat)
 }
 
 /// One holding of a worker: what it brings is applied, and then it takes what is next.
@@ -151,7 +151,7 @@ pub(crate) fn serve<B: Node>(
     if left.is_err() {
         return (Next::End, left);
     }
-    (go_on(core, seat), left)
+    (go_on(alloc, core, seat), left)
 }
 
 /// Puts back what the seat couldn't work on, and the seat gives up. In a core that has ended nothing is put back, and what was

@@ -29,22 +29,6 @@ has_plan (EtherState s) hooks reads = refl
 has_plan (EtfState s) hooks reads = refl
 has_plan (MacsetState s) hooks reads = refl
 
-pub no_plan : (kept : KindState) (hooks : List (List ℕ)) → writes_by_packets (kind_of_kept kept) ≡ true → way_of_kept kept hooks ≡ None
-no_plan (One2manyState s) hooks writes = refl
-no_plan (HubState persistent) hooks writes = absurd (true≢false (sym writes))
-no_plan HoleState hooks writes = absurd (true≢false (sym writes))
-no_plan EchoState hooks writes = absurd (true≢false (sym writes))
-no_plan SplitState hooks writes = absurd (true≢false (sym writes))
-no_plan SocketState hooks writes = absurd (true≢false (sym writes))
-no_plan (TeeState rows) hooks writes = absurd (true≢false (sym writes))
-no_plan (BridgeState s) hooks writes = absurd (true≢false (sym writes))
-no_plan (VlanState s) hooks writes = absurd (true≢false (sym writes))
-no_plan (PatchState ops) hooks writes = absurd (true≢false (sym writes))
-no_plan (BpfState s) hooks writes = absurd (true≢false (sym writes))
-no_plan (EtherState s) hooks writes = absurd (true≢false (sym writes))
-no_plan (EtfState s) hooks writes = absurd (true≢false (sym writes))
-no_plan (MacsetState s) hooks writes = absurd (true≢false (sym writes))
-
 -- without a plan a packet writes
 none_writes : (kept : KindState) (hooks : List (List ℕ)) → way_of_kept kept hooks ≡ None → writes_by_packets (kind_of_kept kept) ≡ true
 none_writes kept hooks none = by (writes_by_packets (kind_of_kept kept)) refl

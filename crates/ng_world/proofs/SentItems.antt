@@ -1,7 +1,6 @@
 -- Items are accepted and done, and packets are sent.
-use Rattle.std.proofs.Common.{◌≡◌, ◌≢◌, ◌⊎◌, ℕ, zero, suc, ◌+◌, ◌-◌, ◌<◌, ◌≤◌, List, [], ◌∷◌, ◌++◌, length, set, get_or, is_some, Bool, true, false, not, refl, sym, ap, ◌∙◌, subst, ⊎_elim, arith, true≢false}
-use Rattle.std.proofs.lemmas.List.{get_or-set_other}
-use Rattle.std.proofs.lemmas.Bool.{cases_eq, eq-eqb, ne_eqb, eqb-true}
+use Rattle.std.proofs.Common.{◌≡◌, ◌≢◌, ◌⊎◌, ℕ, ◌+◌, ◌<◌, ◌≤◌, List, [], ◌∷◌, ◌++◌, length, get_or, is_some, Bool, true, false, not, refl, sym, ap, ◌∙◌, subst, ⊎_elim, arith, true≢false}
+use Rattle.std.proofs.lemmas.Bool.{cases_eq, ne_eqb, eqb-true}
 use Rattle.std.specs.Prelude.{◌==◌, nat_lt}
 use Rattle.std.specs.Option.{option_map}
 use Rattle.std.specs.declared.option.Option.{Option}
@@ -21,7 +20,6 @@ use Rattle.ng_machine.specs.Words.{Has}
 use Rattle.ng_machine.specs.World.{World, NodeRecord, node_in, node_at, kind_at, item_id, node_id}
 use Rattle.ng_machine.proofs.NodeLists.{given_number}
 use Rattle.ng_machine.proofs.Standing.{in_front, in_pushed, of_filter, to_filter}
-use Rattle.ng_queue.specs.Queues.{spare_at}
 use Rattle.ng_tie.specs.Tie.{untaken, without, IsSorted}
 use Rattle.ng_tie.specs.TieLaws.{one}
 use Rattle.ng_tie.proofs.SortedItems.{sorted_one}
@@ -158,22 +156,6 @@ send_accepts w hook node kind body packet stamp j here k lt is =
     ∙ ap (λ (b : Bool). send_if w hook (Some node) b packet stamp) lt
     ∙ ap (λ (z : Kind). accept w hook.peer.node z (arrival hook packet) None stamp) k
     ∙ ap (λ (b : Body). accept w hook.peer.node kind b None stamp) (sym is))
-
--- one place is spent
-pub one_spent : (spares after : List ℕ) (m n : ℕ) → after ≡ set spares m (spare_at spares m - 1) → spare_at spares n ≤ spare_at after n + one (m == n)
-one_spent spares after m n e = ⊎_elim
-    (λ (same : m ≡ n). let b : one (m == n) ≡ 1 = ap one (eq-eqb m n same) in
-    let here : spare_at after n ≡ spare_at (set spares m (spare_at spares m - 1)) n = ap (λ (l : List ℕ). spare_at l n) e in
-    let v = set_here spares m in
-    let w : spare_at (set spares m (spare_at spares m - 1)) n ≡ spare_at (set spares m (spare_at spares m - 1)) m = ap (spare_at (set spares m (spare_at spares m - 1))) (sym same) in
-    let z : spare_at spares n ≡ spare_at spares m = ap (spare_at spares) (sym same) in omega arith)
-    (λ (d : m ≢ n). let here : spare_at after n ≡ spare_at spares n = ap (λ (l : List ℕ). spare_at l n) e ∙ get_or-set_other spares m n (spare_at spares m - 1) 0 (λ z. d (sym z)) in omega arith)
-    (cases_eq m n)
-  where
-    set_here : (xs : List ℕ) (k : ℕ) → spare_at xs k - 1 ≤ spare_at (set xs k (spare_at xs k - 1)) k
-    set_here [] k = omega arith
-    set_here (x ∷ xs) zero = omega arith
-    set_here (x ∷ xs) (suc k) = set_here xs k
 
 pub one_more : (hook : Hook) (n before after : ℕ) → before ≤ after → before + 1 ≤ after ⊎ (hook.peer.node.0 ≢ n) → before + one (goes_to (Some hook) n) ≤ after
 one_more hook n before after le m = by (hook.peer.node.0 == n) refl

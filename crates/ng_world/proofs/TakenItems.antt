@@ -7,7 +7,7 @@ use Rattle.std.specs.declared.option.Option.TheVariants.{None, Some}
 use Rattle.ng_base.specs.declared.ids.NodeId.{NodeId}
 use Rattle.ng_machine.specs.declared.item.Item.{Item}
 use Rattle.ng_machine.specs.Body.{is_writer}
-use Rattle.ng_machine.specs.Desk.{Writes, job_at}
+use Rattle.ng_machine.specs.Desk.{Writes, job_at, job_of}
 use Rattle.ng_machine.specs.Orderly.{MayTake, TakenBeside}
 use Rattle.ng_machine.specs.Run.{RunState, Taken}
 use Rattle.ng_machine.specs.Words.{Has}
@@ -26,6 +26,8 @@ use Rattle.ng_pending.proofs.HeldItems.{next_held}
 use Rattle.ng_topology.specs.OfWorld.{IsOfWorld}
 use Rattle.ng_topology.specs.Topology.{Topology, is_home, lend_box}
 use Rattle.ng_world.specs.declared.state.State.{State}
+use Rattle.ng_world.specs.declared.handed.Tool.{Tool}
+use Rattle.ng_world.specs.Handed.{IsJobBy}
 use Rattle.ng_world.specs.Lent.{WriterOut, Lent}
 use Rattle.ng_world.specs.Stands.{Stands, port_of}
 use Rattle.ng_world.proofs.StandsAfter.{stands_with}
@@ -106,6 +108,12 @@ least_node s a n S L =
     let h = some_item (head (list_at s.pending.queues.lists n)) (ready_head (hold_of (list_at s.pending.queues.lists n)) (head (list_at s.pending.queues.lists n)) L.id L.is_ready) in
     let N = next_held s.pending a n h.0 S.items L h.1 in
     record { item = h.0; head_is = h.1; next = N.0; at = item_node s a h.0 S N.0.may.pending }
+
+-- the job of an item that is next, by what the head of its queue is worked on with
+pub next_job : {B : Type 0} (s : State B) (a : RunState) (at : ℕ) (t : Tool) (item : Item) (node : NodeRecord) → Stands s a → head (list_at s.pending.queues.lists at) ≡ Some item → node_at a.world item.to ≡ Some node
+    → ((b : RunState) (x : Item) (r : NodeRecord) → Stands s b → head (list_at s.pending.queues.lists at) ≡ Some x → node_at b.world x.to ≡ Some r → IsJobBy t x r (job_at x (Some r)))
+    → IsJobBy t item node (job_of a.world item)
+next_job s a at t item node S head_is here by = subst (IsJobBy t item node) (sym (ap (job_at item) here)) (by a item node S head_is here)
 
 -- A NODE IS LENT
 

@@ -1,10 +1,9 @@
 -- What a seat is handed, by its job, and what it hands in.
-use Rattle.std.specs.Prelude.{Option, Some, None}
+use Rattle.std.specs.Prelude.{◌≡◌, IsSome}
 use Rattle.std.specs.Arc.{arc_value}
 use Rattle.ng_machine.specs.declared.item.Item.{Item}
-use Rattle.ng_machine.specs.declared.plan.Plan.{Plan as ThePlan}
-use Rattle.ng_machine.specs.Desk.{Job, Idle, Within, Reads, Writes}
-use Rattle.ng_machine.specs.State.{State}
+use Rattle.ng_machine.specs.Desk.{Job, Within, Reads, Writes, frame_job}
+use Rattle.ng_machine.specs.State.{State, way_of}
 use Rattle.ng_machine.specs.World.{NodeRecord, state_of}
 use Rattle.ng_world.specs.declared.handed.Work.{Work}
 use Rattle.ng_world.specs.declared.handed.Work.TheVariants.{Read, Write, Inside}
@@ -25,18 +24,16 @@ job_with state (Read item plan) = Reads item (arc_value plan)
 job_with state (Write item node) = Writes item (state node)
 job_with state (Inside item) = Within item
 
--- the job of an item that is worked on with this, at a node
-abbrev pub job_by : Tool → Item → NodeRecord → Job
-job_by (Plan plan) item node = Reads item (arc_value plan)
-job_by Node item node = Writes item (state_of node)
-job_by Nothing item node = Within item
+-- the job of an item that the plan of its node works on, which has one
+pub record IsForPlan (item : Item) (node : NodeRecord) (job : Job) : Type 0 where
+  pub planned : IsSome (way_of (state_of node))
+  pub job_is : job ≡ frame_job item (state_of node) (way_of (state_of node))
 
--- the plan that works on a job, where one does
-abbrev pub plan_in : Job → Option ThePlan
-plan_in Idle = None
-plan_in (Within item) = None
-plan_in (Reads item plan) = Some plan
-plan_in (Writes item state) = None
+-- the job of an item that is worked on with this, at a node
+abbrev pub IsJobBy : Tool → Item → NodeRecord → Job → Type 0
+IsJobBy Plan item node job = IsForPlan item node job
+IsJobBy Node item node job = job ≡ Writes item (state_of node)
+IsJobBy Nothing item node job = job ≡ Within item
 
 abbrev pub item_done : {B : Type 0} → Done B → Item
 item_done (done.Read item outcome) = item

@@ -21,10 +21,10 @@ pub enum Work<B: Node> {
 }
 
 /// What an item is worked on with.
-#[derive(Drop)]
+#[derive(Clone, Copy)]
 pub enum Tool {
     /// The plan of its node.
-    Plan(Arc<Plan>),
+    Plan,
     /// The node.
     Node,
     /// Nothing.

@@ -1,9 +1,6 @@
 // A box comes home, and an item is put back.
 ghost use Rattle.std.specs.Prelude.{◌≡◌, slice_set, Some};
-ghost use Rattle.std.specs.Arc.{arc_value};
-ghost use Rattle.std.specs.Option.{option_map};
 ghost use Rattle.ng_machine.specs.Run.{RunState};
-ghost use Rattle.ng_machine.specs.State.{way_of};
 ghost use Rattle.ng_machine.specs.World.{NodeRecord, node_at};
 ghost use Rattle.ng_pending.specs.Holds.{IsOutIn, in_world, with_untaken};
 ghost use Rattle.ng_topology.specs.Topology.{FitsNodeAt, IsThere, give_box, with_kept};
@@ -12,22 +9,19 @@ ghost use Rattle.ng_world.specs.Stands.{MayLeave, Stands};
 use crate::State;
 use ng_base::NodeId;
 use ng_node::Node;
-use ng_plan::Plan;
 use ng_queue::BoxedItem;
-use std::sync::Arc;
 
 impl<B: Node> State<B> {
-    /// A box comes home, with what it keeps then and the plan that stands for it.
-    pub fn home(&mut self, at: NodeId, node: B, plan: Option<Arc<Plan>>)
+    /// A box comes home, with what it keeps then.
+    pub fn home(&mut self, at: NodeId, node: B)
         requires there { IsThere self.old.graph at }
         requires fits { FitsNodeAt self.old.graph at (B.state node) }
-        requires next { option_map arc_value plan ≡ way_of (B.state node) }
         ensures stands { (a : RunState) (was : NodeRecord) → Stands self.old a → node_at a.world at ≡ Some was
             → Stands self.new (in_world a (record a.world { nodes = slice_set a.world.nodes at.0 (Some (with_kept (B.state node).kept was)) })) }
         ensures graph { self.new.graph ≡ give_box self.old.graph at (B.state node) }
         ensures pending { self.new.pending ≡ self.old.pending }
     {
-        self.graph.give(at, node, plan);
+        self.graph.give(at, node);
     }
 
     /// A taken item is put back at its place; where it is a writer, its node's box is at home.

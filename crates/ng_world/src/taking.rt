@@ -1,11 +1,13 @@
 // A seat takes an item, with what it is worked on with.
-ghost use Rattle.std.specs.Prelude.{◌≡◌, ℕ, ◌+◌, ◌<◌, ◌^◌, true, false, is_some, None, Some, IfOk, OnErr, IfSome, IfNone};
+ghost use Rattle.std.specs.Prelude.{◌≡◌, ℕ, ◌+◌, ◌<◌, ◌^◌, true, false, is_some, IsSome, None, Some, IfOk, OnErr, IfSome, IfNone};
+ghost use Rattle.std.specs.Arc.{arc_value};
 ghost use Rattle.ng_machine.specs.declared.item.Item.{Item as TheItem};
 ghost use Rattle.ng_machine.specs.Body.{is_writer};
 ghost use Rattle.ng_machine.specs.declared.plan.Plan.{Plan as ThePlan};
 ghost use Rattle.ng_machine.specs.Desk.{Job, Reads, job_of, job_at};
 ghost use Rattle.ng_machine.specs.Orderly.{MayTake};
 ghost use Rattle.ng_machine.specs.Run.{RunState};
+ghost use Rattle.ng_machine.specs.State.{way_of};
 ghost use Rattle.ng_machine.specs.World.{NodeRecord, kind_at, node_at, node_in, state_of};
 ghost use Rattle.ng_pending.specs.Holds.{with_taken};
 ghost use Rattle.ng_queue.specs.Queue.{head};
@@ -14,7 +16,7 @@ ghost use Rattle.ng_story.specs.Story.{IsNext};
 ghost use Rattle.ng_topology.specs.Topology.{IsAtHome, linked_hook_at};
 ghost use Rattle.ng_machine.specs.Effect.{is_hook_gone, lacks_link, class_of};
 ghost use Rattle.ng_machine.specs.Desk.{is_of_kind};
-ghost use Rattle.ng_world.specs.Handed.{item_of, job_by, job_with, plan_in};
+ghost use Rattle.ng_world.specs.Handed.{IsForPlan, IsJobBy, item_of, job_with};
 ghost use Rattle.ng_world.specs.Lent.{WriterOut};
 ghost use Rattle.ng_world.specs.Stands.{IsStanding, Stands};
 
@@ -27,6 +29,8 @@ use ng_node::Node;
 use ng_plan::Plan;
 use ng_queue::BoxedItem;
 use ng_topology::Graph;
+use std::alloc::Global;
+use std::sync::Arc;
 
 // The cookie of the first type's own messages; the others follow in the order of the types.
 const FIRST_COOKIE: u32 = 0x4e47_0001;
@@ -76,39 +80,20 @@ fn is_own_message<B: Node>(graph: &Graph<B>, at: NodeId, msg: &Msg) -> bool
 }
 
 // What the item is worked on with at its node.
-fn tool_for<B: Node>(graph: &Graph<B>, item: &Item) -> Result<Tool, NoMemory>
-    requires { (node : NodeRecord) × (node_in graph.now.nodes item.now.to ≡ Some node) × (item.now.writer ≡ is_writer (kind_at node) item.now.body) }
+fn tool_for<B: Node>(graph: &Graph<B>, item: &Item) -> Tool
     ensures { (node : NodeRecord) → node_in graph.now.nodes item.now.to ≡ Some node
-        → item.now.writer ≡ is_writer (kind_at node) item.now.body
-        → IfOk result (λ t. job_at item.now (Some node) ≡ job_by t item.now node) }
+        → item.now.writer ≡ is_writer (kind_at node) item.now.body → IsJobBy result item.now node (job_at item.now (Some node)) }
 {
     if is_hook_gone(graph, item.to, &item.body) {
-        return Ok(Tool::Nothing);
+        return Tool::Nothing;
     }
     match &item.body {
-        Body::Frame { .. } if item.writer => Ok(Tool::Node),
-        Body::Frame { .. } => Ok(Tool::Plan(graph.plan(item.to)?)),
-        Body::Msg(msg) if item.writer && is_own_message(graph, item.to, msg) => Ok(Tool::Node),
-        Body::Learn { hook, link, .. } if graph.has_link(item.to, hook, *link) => Ok(Tool::Node),
-        Body::Tick(_) => Ok(Tool::Node),
-        _ => Ok(Tool::Nothing),
-    }
-}
-
-// The plan that works on the item at its node, where one does.
-fn reader_of<'a, B: Node>(graph: &'a Graph<B>, item: &Item) -> Option<&'a Plan>
-    requires { (node : NodeRecord) × (node_in graph.now.nodes item.now.to ≡ Some node) × (item.now.writer ≡ is_writer (kind_at node) item.now.body) }
-    ensures some { IfSome result (λ plan. (node : NodeRecord) → node_in graph.now.nodes item.now.to ≡ Some node
-        → item.now.writer ≡ is_writer (kind_at node) item.now.body → job_at item.now (Some node) ≡ Reads item.now plan.now) }
-    ensures none { IfNone result ((node : NodeRecord) → node_in graph.now.nodes item.now.to ≡ Some node
-        → item.now.writer ≡ is_writer (kind_at node) item.now.body → plan_in (job_at item.now (Some node)) ≡ None) }
-{
-    if item.writer || is_hook_gone(graph, item.to, &item.body) {
-        return None;
-    }
-    match &item.body {
-        Body::Frame { .. } => Some(graph.peek_plan(item.to)),
-        _ => None,
+        Body::Frame { .. } if item.writer => Tool::Node,
+        Body::Frame { .. } => Tool::Plan,
+        Body::Msg(msg) if item.writer && is_own_message(graph, item.to, msg) => Tool::Node,
+        Body::Learn { hook, link, .. } if graph.has_link(item.to, hook, *link) => Tool::Node,
+        Body::Tick(_) => Tool::Node,
+        _ => Tool::Nothing,
     }
 }
 
@@ -137,45 +122,61 @@ impl<B: Node> State<B> {
     }
 
     // The queue with the least item that may be taken, and what that is worked on with.
-    fn pick(&self) -> Result<Option<(usize, Tool)>, NoMemory>
+    fn pick(&self) -> Option<(usize, Tool)>
         requires { IsStanding self.now }
-        ensures none { IfOk result (λ o. IfNone o ((a : RunState) → Stands self.now a → (item : TheItem) → MayTake a item → ⊥)) }
-        ensures some { IfOk result (λ o. IfSome o (λ x. IsLeast self.now.pending.queues.lists x.0)) }
-        ensures tool { IfOk result (λ o. IfSome o (λ x. (a : RunState) (item : TheItem) (node : NodeRecord)
+        ensures none { IfNone result ((a : RunState) → Stands self.now a → (item : TheItem) → MayTake a item → ⊥) }
+        ensures some { IfSome result (λ x. IsLeast self.now.pending.queues.lists x.0) }
+        ensures tool { IfSome result (λ x. (a : RunState) (item : TheItem) (node : NodeRecord)
             → Stands self.now a → head (list_at self.now.pending.queues.lists x.0) ≡ Some item
-            → node_at a.world item.to ≡ Some node → job_at item (Some node) ≡ job_by x.1 item node)) }
+            → node_at a.world item.to ≡ Some node → IsJobBy x.1 item node (job_at item (Some node))) }
     {
         let Some(at) = self.pending.least() else {
-            return Ok(None);
+            return None;
         };
-        let tool = tool_for(&self.graph, self.pending.head(at))?;
-        Ok(Some((at, tool)))
+        Some((at, tool_for(&self.graph, self.pending.head(at))))
     }
 
-    /// The queue with the least item that may be taken, and the plan of its node, where that item is a packet that the plan works
-    /// on.
-    pub fn next_read(&self) -> Option<(usize, &Plan)>
+    /// The queue with the least item that may be taken, where that item is a packet that the plan of its node works on.
+    pub fn next_read(&self) -> Option<usize>
         requires { IsStanding self.now }
-        ensures least { IfSome result (λ x. IsLeast self.now.pending.queues.lists x.0) }
-        ensures job { IfSome result (λ x. (a : RunState) (item : TheItem) → Stands self.now a
-            → head (list_at self.now.pending.queues.lists x.0) ≡ Some item → job_of a.world item ≡ Reads item x.1.now) }
+        ensures least { IfSome result (λ at. IsLeast self.now.pending.queues.lists at) }
+        ensures job { IfSome result (λ at. (a : RunState) (item : TheItem) (node : NodeRecord) → Stands self.now a
+            → head (list_at self.now.pending.queues.lists at) ≡ Some item → node_at a.world item.to ≡ Some node → IsForPlan item node (job_of a.world item)) }
         ensures none { IfNone result ((a : RunState) (item : TheItem) (plan : ThePlan) → Stands self.now a
             → IsNext a item → job_of a.world item ≡ Reads item plan → ⊥) }
     {
-        let Some(at) = self.pending.least() else {
+        let Some((at, tool)) = self.pick() else {
             return None;
         };
-        let Some(plan) = reader_of(&self.graph, self.pending.head(at)) else {
-            return None;
-        };
-        Some((at, plan))
+        match tool {
+            Tool::Plan => Some(at),
+            Tool::Node | Tool::Nothing => None,
+        }
+    }
+
+    /// The plan of the node of the least item that may be taken, which has one; it is shared. It is made where none was since the
+    /// node last changed.
+    ///
+    /// # Errors
+    /// `NoMemory` where memory ran out, or the plan is shared more often than can be counted.
+    pub fn plan_at(&mut self, alloc: Global, at: usize) -> Result<Arc<Plan>, NoMemory>
+        requires standing { IsStanding self.old }
+        requires least { IsLeast self.old.pending.queues.lists at }
+        requires planned { (a : RunState) (item : TheItem) (node : NodeRecord) → Stands self.old a
+            → head (list_at self.old.pending.queues.lists at) ≡ Some item → node_at a.world item.to ≡ Some node → IsSome (way_of (state_of node)) }
+        ensures plan { IfOk result (λ plan. (a : RunState) (item : TheItem) (node : NodeRecord) → Stands self.old a
+            → head (list_at self.old.pending.queues.lists at) ≡ Some item → node_at a.world item.to ≡ Some node → way_of (state_of node) ≡ Some (arc_value plan)) }
+        ensures same { self.new ≡ self.old }
+    {
+        let to = self.pending.head(at).to;
+        self.graph.plan(alloc, to)
     }
 
     /// Takes the least item that may be taken, where there is one.
     ///
     /// # Errors
-    /// `NoMemory` where a plan is shared more often than can be counted; nothing changed.
-    pub fn take(&mut self, seat: u32) -> Result<Option<Work<B>>, NoMemory>
+    /// `NoMemory` where memory ran out, or a plan is shared more often than can be counted; nothing changed.
+    pub fn take(&mut self, alloc: Global, seat: u32) -> Result<Option<Work<B>>, NoMemory>
         requires standing { IsStanding self.old }
         requires few { self.old.pending.out + 1 < 2 ^ 64 }
         ensures err { OnErr result (self.new ≡ self.old) }
@@ -187,17 +188,24 @@ impl<B: Node> State<B> {
         ensures after { IfOk result (λ o. IfSome o (λ work. (a : RunState) → Stands self.old a
             → Stands self.new (with_taken a (item_of work).id.0 seat))) }
     {
-        let Some((at, tool)) = self.pick()? else {
+        let Some((at, tool)) = self.pick() else {
             return Ok(None);
         };
-        let item = self.take_at(at, seat);
         match tool {
-            Tool::Plan(plan) => Ok(Some(Work::Read { item, plan })),
+            Tool::Plan => {
+                let plan = self.plan_at(alloc, at)?;
+                let item = self.take_at(at, seat);
+                Ok(Some(Work::Read { item, plan }))
+            }
             Tool::Node => {
+                let item = self.take_at(at, seat);
                 let node = self.lend(item.to);
                 Ok(Some(Work::Write { item, node }))
             }
-            Tool::Nothing => Ok(Some(Work::Inside { item })),
+            Tool::Nothing => {
+                let item = self.take_at(at, seat);
+                Ok(Some(Work::Inside { item }))
+            }
         }
     }
 }

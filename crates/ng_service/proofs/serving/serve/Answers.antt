@@ -1,33 +1,41 @@
-use Rattle.std.proofs.Common.{ℕ, subst}
-use Rattle.std.specs.Prelude.{IfSome}
-use Rattle.std.specs.declared.option.Option.{Option}
-use Rattle.ng_base.specs.declared.ids.ItemId.{ItemId}
+use Rattle.std.proofs.Common.{◌≡◌, ◌∙◌, sym, ap, subst}
+use Rattle.std.specs.declared.option.Option.TheVariants.{Some}
+use Rattle.ng_machine.specs.declared.item.Item.{Item}
 use Rattle.ng_machine.specs.Run.{RunState}
-use Rattle.ng_queue.specs.Queues.{IsLeast}
+use Rattle.ng_queue.specs.Queue.{head}
+use Rattle.ng_queue.specs.Queues.{list_at}
+use Rattle.ng_world.specs.declared.state.State.{State}
 use Rattle.ng_world.specs.Stands.{Stands}
-use Rattle.ng_service.specs.Work.{IsWorkedOn}
 use Rattle.ng_service.proofs.NextReads.{head_read, next_is}
 use Rattle.ng_service.proofs.serving.serve.Goals as goal
+use Rattle.ng_service.proofs.serving.serve.Goals.{In_ok-id}
+
+-- after the work on the head what is kept is as it was
+stands_still : (g : _) (c : In_ok-id g) (a : RunState) → Stands c.args.state.now a → Stands c.work_on.new.state a
+stands_still g c a S = subst (λ (s : State g.row.B.Denot). Stands s a) (sym c.work_on.ensures.same) S
+
+first_still : (g : _) (c : In_ok-id g) (item : Item) → head (list_at c.args.state.now.pending.queues.lists c.in-Some.at) ≡ Some item → head (list_at c.work_on.new.state.pending.queues.lists c.in-Some.at) ≡ Some item
+first_still g c item e = ap (λ (s : State g.row.B.Denot). head (list_at s.pending.queues.lists c.in-Some.at)) c.work_on.ensures.same ∙ e
 
 pub serve_read-requires-clause-work : goal.serve_read-requires-clause-work
 serve_read-requires-clause-work g c κs within =
+    let at = (goal.at.serve_read-requires-clause-work g c).In_ok-id in
     let a = c.requires.work.0 in
     let S = c.requires.work.1 in
-    let least = subst (λ (o : Option (ℕ × ItemId)). IfSome o (λ x. IsLeast c.args.state.now.pending.queues.lists x.0)) c.in-Some.is c.in_ok-at.ensures.least in
-    let W = subst (λ (o : Option (ℕ × ItemId)). IfSome o (λ x. (b : RunState) → Stands c.args.state.now b → IsWorkedOn b c.args.state.now x.0 x.1 c.work_on_next.new.outcome)) c.in-Some.is c.in_ok-at.ensures.work a S in
-    let H = head_read c.args.state.now a c.in-Some.at W.item W.plan c.work_on_next.new.outcome S least W.first W.job W.evaluated in
-    (a, W.item, H.0, S, W.first, H.1, c.requires.work.2, H.2)
+    let W = c.in_ok-id.ensures.work a S in
+    let H = head_read c.args.state.now a c.in-Some.at W.item W.plan c.work_on.new.outcome S c.in-Some.ensures.least W.first W.job W.evaluated in
+    (a, W.item, H.0, stands_still g at a S, first_still g at W.item W.first, H.1, c.requires.work.2, H.2)
 
 pub returns-clause-served : goal.returns-clause-served
 returns-clause-served g c = λ a S L.
-    let least = subst (λ (o : Option (ℕ × ItemId)). IfSome o (λ x. IsLeast c.args.state.now.pending.queues.lists x.0)) c.in-Some.is c.in_ok-at.ensures.least in
-    let W = subst (λ (o : Option (ℕ × ItemId)). IfSome o (λ x. (b : RunState) → Stands c.args.state.now b → IsWorkedOn b c.args.state.now x.0 x.1 c.work_on_next.new.outcome)) c.in-Some.is c.in_ok-at.ensures.work a S in
-    let H = head_read c.args.state.now a c.in-Some.at W.item W.plan c.work_on_next.new.outcome S least W.first W.job W.evaluated in
+    let at = (goal.at.returns-clause-served g c).In_ok-id in
+    let W = c.in_ok-id.ensures.work a S in
+    let H = head_read c.args.state.now a c.in-Some.at W.item W.plan c.work_on.new.outcome S c.in-Some.ensures.least W.first W.job W.evaluated in
     record {
       item = W.item;
       number = W.number;
-      next = next_is c.args.state.now a c.in-Some.at W.item S least W.first;
+      next = next_is c.args.state.now a c.in-Some.at W.item S c.in-Some.ensures.least W.first;
       plan = W.plan;
       job = W.job;
-      stands = c.in_ok-serve_read.ensures.served a W.item H.0 S W.first H.1 L H.2;
+      stands = c.in_ok-serve_read.ensures.served a W.item H.0 (stands_still g at a S) (first_still g at W.item W.first) H.1 L H.2;
     }

@@ -69,7 +69,7 @@ pub conclude-requires-clause-leaving : goal.conclude-requires-clause-leaving
 conclude-requires-clause-leaving g c κs within =
     leaving_kept c.make_room.new.state c.finish.new.state c.requires.work.0 c.args.item.now.to (length c.args.outcome.leaves) (c.make_room.ensures.stands c.requires.work.0 c.requires.work.2) c.requires.work.4
     (c.finish.ensures.told ∙ c.bring_home.ensures.told) (c.finish.ensures.ports ∙ c.bring_home.ensures.ports)
-    (let few = c.make_room.ensures.few in omega arith) c.in-Ok-make_room.ensures.told c.in-Ok-make_room.ensures.port
+    (let few = c.make_room.ensures.few in omega arith) c.in-Ok.ensures.told c.in-Ok.ensures.port
 
 pub conclude-requires-clause-room : goal.conclude-requires-clause-room
 conclude-requires-clause-room g c κs within =
@@ -84,7 +84,7 @@ conclude-requires-clause-room g c κs within =
     (λ front. ap (λ (t : Topology). goers t.nodes c.args.item.now.to front) home ∙ ap (λ (t : Topology). goers (change_node t c.args.item.now.to f).nodes c.args.item.now.to front) c.make_room.ensures.graph
     ∙ goers_changed c.args.state.now.graph.nodes c.args.item.now.to f front (λ r. refl))
     (c.finish.ensures.spares ∙ ap (λ (p : Pending). p.queues.spares) c.bring_home.ensures.pending) (c.finish.ensures.lists ∙ ap (λ (p : Pending). length p.queues.lists) c.bring_home.ensures.pending) (omega arith)
-    (subst (λ (o : Option NodeId). HasFront 1 c.args.state.now.graph c.args.item.now.to (one_at o) c.args.outcome.sends c.make_room.new.state.pending) c.target.ensures c.in-Ok-make_room.ensures.room)
+    (subst (λ (o : Option NodeId). HasFront 1 c.args.state.now.graph c.args.item.now.to (one_at o) c.args.outcome.sends c.make_room.new.state.pending) c.target.ensures c.in-Ok.ensures.room)
 
 pub conclude-requires-clause-numbers : goal.conclude-requires-clause-numbers
 conclude-requires-clause-numbers g c κs within =

@@ -9,7 +9,3 @@ pub give-requires-clause-fits : goal.give-requires-clause-fits
 give-requires-clause-fits g c κs within = λ node there.
     let same = c.lend-node.ensures.state node (sym (ap (λ (t : Topology). node_in t.nodes c.args.id) c.lend-node.ensures.after) ∙ there) in
     record { kind = ap kind_of same; hooks = ap (λ (s : State). s.hooks) same }
-
-pub restore-requires-clause-same : goal.restore-requires-clause-same
-restore-requires-clause-same g c κs within = λ node there.
-    c.lend-node.ensures.state node (sym (ap (λ (t : Topology). node_in t.nodes c.args.id) c.lend-node.ensures.after) ∙ there)

@@ -1,4 +1,4 @@
--- The plan is that of the box without the hook.
+-- The box has one hook less, and the plan goes.
 use Rattle.std.specs.Arc.{arc_value}
 use Rattle.std.specs.Option.{option_map}
 use Rattle.ng_topology.proofs.NodeLemmas.{consistent_cut}
@@ -7,5 +7,4 @@ use Rattle.ng_topology.proofs.entry.Entry.leave.Goals as goal
 pub invariant_of-self : goal.invariant_of-self
 invariant_of-self g c =
     consistent_cut c.self.inside.kind (g.B.Node.state c.in-Some.node) (g.B.Node.state c.cut.new.self) c.self.inside.hooks c.remove.new.self
-    (option_map arc_value c.self.inside.plan) (option_map arc_value c.args.next) c.args.name.now (rw c.in-Some.is at c.self.invariant) c.cut.ensures c.remove.ensures
-    (rw c.in-Some.is at (rw (← c.self.view_is) at c.requires.next))
+    (option_map arc_value c.self.inside.plan) c.args.name.now (rw c.in-Some.is at c.self.invariant) c.cut.ensures c.remove.ensures

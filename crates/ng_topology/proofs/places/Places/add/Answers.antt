@@ -1,12 +1,9 @@
 -- The entry at the place is the node of that number.
 use Rattle.std.proofs.Common.{◌≡◌, ◌∙◌, true, false, get_or, map, sym, Some, None}
-use Rattle.std.specs.Arc.{arc_value}
-use Rattle.std.specs.Option.{option_map}
 use Rattle.std.proofs.lemmas.Result.{on_ok_weaker, on_err_weaker}
 use Rattle.ng_machine.specs.World.{with_hook}
-use Rattle.ng_machine.specs.State.{way_of}
 use Rattle.ng_topology.specs.Topology.{home_of}
-use Rattle.ng_topology.proofs.PlaceLemmas.{entry_node, entry_home, places_change, places_same, found_home, nobody_home, back_plans, is_linked_after, undone}
+use Rattle.ng_topology.proofs.PlaceLemmas.{entry_node, entry_home, places_change, places_same, found_home, nobody_home, is_linked_after, undone}
 use Rattle.ng_topology.proofs.places.Places.add.Goals as goal
 
 pub unreachable-requires : goal.unreachable-requires
@@ -31,12 +28,6 @@ returns-clause-ok g c =
     let home : get_or (map home_of c.self.inside.entries.items) c.args.id.0 false ≡ true = rw (← c.self.view_is) at c.requires.home in
     let at : get_or c.self.inside.entries.items c.args.id.0 None ≡ Some c.in-Some.entry = found_home c.self.inside.entries.items c.args.id.0 c.in-Some.entry c.index_mut.result.now home c.index_mut.ensures.value c.in-Some.is in
     on_ok_weaker c.add.result (λ h. rw (← c.self.view_is) (places_change c.self.inside.entries.items c.args.id c.self.inside.room c.in-Some.entry c.add.new.self (λ node. with_hook node c.args.hook) at h)) c.add.ensures.ok
-
-pub returns-clause-was : goal.returns-clause-was
-returns-clause-was g c =
-    let home : get_or (map home_of c.self.inside.entries.items) c.args.id.0 false ≡ true = rw (← c.self.view_is) at c.requires.home in
-    let at : get_or c.self.inside.entries.items c.args.id.0 None ≡ Some c.in-Some.entry = found_home c.self.inside.entries.items c.args.id.0 c.in-Some.entry c.index_mut.result.now home c.index_mut.ensures.value c.in-Some.is in
-    back_plans c.self.inside.entries.items c.args.id c.in-Some.entry c.add.new.self c.args.hook at c.add.result (λ was state. option_map arc_value was ≡ way_of state) c.add.ensures.undone c.add.ensures.ok c.add.ensures.was
 
 pub returns-clause-linked : goal.returns-clause-linked
 returns-clause-linked g c =

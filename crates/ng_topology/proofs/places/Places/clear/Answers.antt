@@ -16,12 +16,6 @@ clear-requires-clause-home g c κs within =
     let at : get_or c.self.inside.entries.items c.args.id.0 None ≡ Some c.in-Some.entry = found_home c.self.inside.entries.items c.args.id.0 c.in-Some.entry c.index_mut.result.now home c.index_mut.ensures.value c.in-Some.is in
     sym (entry_home c.self.inside.entries.items c.args.id c.in-Some.entry at) ∙ home
 
-pub clear-requires-clause-next : goal.clear-requires-clause-next
-clear-requires-clause-next g c κs within =
-    let home : get_or (map home_of c.self.inside.entries.items) c.args.id.0 false ≡ true = rw (← c.self.view_is) at c.requires.home in
-    let at : get_or c.self.inside.entries.items c.args.id.0 None ≡ Some c.in-Some.entry = found_home c.self.inside.entries.items c.args.id.0 c.in-Some.entry c.index_mut.result.now home c.index_mut.ensures.value c.in-Some.is in
-    c.requires.next c.in-Some.entry.node (rw (← c.self.view_is) (entry_node c.self.inside.entries.items c.args.id c.in-Some.entry at))
-
 pub returns : goal.returns
 returns g c =
     let home : get_or (map home_of c.self.inside.entries.items) c.args.id.0 false ≡ true = rw (← c.self.view_is) at c.requires.home in

@@ -17,12 +17,6 @@ leave-requires-clause-home g c κs within =
     let at : get_or c.self.inside.entries.items c.args.id.0 None ≡ Some c.in-Some.entry = found_home c.self.inside.entries.items c.args.id.0 c.in-Some.entry c.index_mut.result.now home c.index_mut.ensures.value c.in-Some.is in
     sym (entry_home c.self.inside.entries.items c.args.id c.in-Some.entry at) ∙ home
 
-pub leave-requires-clause-next : goal.leave-requires-clause-next
-leave-requires-clause-next g c κs within =
-    let home : get_or (map home_of c.self.inside.entries.items) c.args.id.0 false ≡ true = rw (← c.self.view_is) at c.requires.home in
-    let at : get_or c.self.inside.entries.items c.args.id.0 None ≡ Some c.in-Some.entry = found_home c.self.inside.entries.items c.args.id.0 c.in-Some.entry c.index_mut.result.now home c.index_mut.ensures.value c.in-Some.is in
-    c.requires.next c.in-Some.entry.node (rw (← c.self.view_is) (entry_node c.self.inside.entries.items c.args.id c.in-Some.entry at))
-
 pub returns-clause-answer : goal.returns-clause-answer
 returns-clause-answer g c =
     let home : get_or (map home_of c.self.inside.entries.items) c.args.id.0 false ≡ true = rw (← c.self.view_is) at c.requires.home in

@@ -5,7 +5,7 @@ use Rattle.ng_machine.specs.declared.item.Item.{Item}
 use Rattle.ng_machine.specs.Body.{is_writer}
 use Rattle.ng_machine.specs.Desk.{job_at}
 use Rattle.ng_machine.specs.World.{NodeRecord, node_in, node_at, kind_at}
-use Rattle.ng_world.specs.Handed.{job_by}
+use Rattle.ng_world.specs.Handed.{IsJobBy}
 use Rattle.ng_world.proofs.TakenItems.{least_node, same_some}
 use Rattle.ng_world.proofs.state.State.pick.Goals as goal
 
@@ -14,12 +14,6 @@ least-requires g c = (c.requires.0, c.requires.1.items)
 
 pub returns-in_default-clause-none : goal.returns-in_default-clause-none
 returns-in_default-clause-none g c = λ a S item M. c.in_default.ensures.none a S.items item M
-
-pub tool_for-requires-after_bounds : goal.tool_for-requires-after_bounds
-tool_for-requires-after_bounds g c κs within =
-    let L = least_node c.args.self.now c.requires.0 c.in-Some.at c.requires.1 c.in-Some.ensures.some in
-    let item = same_some L.item c.head.result.now (sym L.head_is ∙ c.head.ensures) in
-    (L.at.node, subst (λ (x : Item). node_in c.args.self.now.graph.nodes x.to ≡ Some L.at.node) item L.at.here, subst (λ (x : Item). x.writer ≡ is_writer (kind_at L.at.node) x.body) item L.at.mode)
 
 pub returns-clause-tool : goal.returns-clause-tool
 returns-clause-tool g c = λ a item node S e here.
@@ -30,4 +24,4 @@ returns-clause-tool g c = λ a item node S e here.
     ap (λ (l : List (Option NodeRecord)). node_in l c.head.result.now.to) S.graph.nodes ∙ subst (λ (z : Item). node_at a.world z.to ≡ Some node) (sym y) here in
     let same = same_some L.at.node node (sym (subst (λ (z : Item). node_in c.args.self.now.graph.nodes z.to ≡ Some L.at.node) x L.at.here) ∙ found) in
     let mode = subst (λ (r : NodeRecord). c.head.result.now.writer ≡ is_writer (kind_at r) c.head.result.now.body) same (subst (λ (z : Item). z.writer ≡ is_writer (kind_at L.at.node) z.body) x L.at.mode) in
-    subst (λ (z : Item). job_at z (Some node) ≡ job_by c.in_ok-tool.tool z node) y (c.in_ok-tool.ensures node found mode)
+    subst (λ (z : Item). IsJobBy c.tool_for.result z node (job_at z (Some node))) y (c.tool_for.ensures node found mode)
