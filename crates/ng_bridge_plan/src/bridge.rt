@@ -1,6 +1,5 @@
 // ng_bridge(4): sends a frame toward the station that it is for.
-ghost use Rattle.std.specs.Prelude.{◌≡◌, ◌∷◌, ◌≤◌, ◌++◌, ◌==◌, [], not, length, is_none, IfOk, OnOk, Some};
-ghost use Rattle.std.specs.List.{filter};
+ghost use Rattle.std.specs.Prelude.{◌≡◌, ◌∷◌, ◌≤◌, ◌++◌, ◌==◌, [], length, is_none, OnOk, Some};
 ghost use Rattle.std.specs.Option.{option_copied};
 ghost use Rattle.ng_machine.specs.Bridge.{bridges, counts_group, counts_sent, counts_unknown, floods, forwards, hears, host_of, Known, link_number, Looped, meets, one_more, others, seen_number, standing, standing_of, to_host, toward};
 ghost use Rattle.ng_machine.specs.Macset.{source_of};
@@ -148,22 +147,6 @@ fn host_of<'a>(hosts: &'a Table<BridgeHost>, address: &[u8; 6]) -> Option<&'a Br
         }
         None => None,
     }
-}
-
-/// The hosts that aren't behind a link.
-///
-/// # Errors
-/// `NoMemory` where memory ran out, and for nothing else.
-pub fn hosts_without(
-    alloc: Global,
-    hosts: &[BridgeHost],
-    number: u8,
-) -> Result<Vec<BridgeHost>, NoMemory>
-    ensures { IfOk result (λ kept. kept.items ≡ filter (λ h. not (h.link == number)) hosts.now) }
-{
-    let mut kept = Vec::from_slice(alloc, hosts)?;
-    kept.retain(|host| host.link != number);
-    Ok(kept)
 }
 
 impl BridgePlan {

@@ -4,5 +4,4 @@
 mod bridge;
 mod links;
 
-pub use bridge::{BridgePlan, hosts_without};
-pub use links::links_without;
+pub use bridge::BridgePlan;

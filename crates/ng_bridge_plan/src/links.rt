@@ -1,10 +1,10 @@
 // The links of a bridge.
-ghost use Rattle.std.specs.Prelude.{◌≡◌, if◌then◌else◌, not, IfOk, Some, None};
-ghost use Rattle.std.specs.List.{filter, find, list_any};
+ghost use Rattle.std.specs.Prelude.{◌≡◌, if◌then◌else◌, Some, None};
+ghost use Rattle.std.specs.List.{find, list_any};
 ghost use Rattle.std.specs.Option.{option_copied};
 ghost use Rattle.ng_machine.specs.Bridge.{is_link_of, link_hook, mute_of};
 
-use ng_base::{Name, NoMemory};
+use ng_base::Name;
 use ng_lookup::{NameTable, link_hook};
 use ng_machine::BridgeLink;
 use std::alloc::Global;
@@ -48,20 +48,4 @@ pub fn hook_of_link(links: &NameTable<BridgeLink>, number: u8) -> Option<Name>
     name[4] = b'0' + number / 10;
     name[5] = b'0' + number % 10;
     hook_named(links.as_slice(), &name)
-}
-
-/// The links without that of a hook.
-///
-/// # Errors
-/// `NoMemory` where memory ran out, and for nothing else.
-pub fn links_without(
-    alloc: Global,
-    links: &[BridgeLink],
-    hook: &Name,
-) -> Result<Vec<BridgeLink>, NoMemory>
-    ensures { IfOk result (λ kept. kept.items ≡ filter (λ l. not (is_link_of hook.now l)) links.now) }
-{
-    let mut kept = Vec::from_slice(alloc, links)?;
-    kept.retain(|link| link.hook != *hook);
-    Ok(kept)
 }

@@ -6,7 +6,7 @@ use ng_base::{Kind, Name, Names, Packet, Sequence};
 use ng_bpf_vm::{Insn, Program, validate};
 use ng_plan::{
     BpfWay, BridgeConfig, BridgeHost, BridgeLink, Door, EtfWay, Outcome, PatchOp, Plan, VlanWay,
-    Way, eval, without,
+    Way, eval,
 };
 use std::alloc::Global;
 use std::sync::Arc;
@@ -172,13 +172,12 @@ fn clones_of_a_plan_work_beside_each_other(rt: HostRuntime) -> Result<(), Fail> 
     Ok(())
 }
 
-// Makes the plan of a way, works out a frame that comes by a hook, and takes the hook out of the plan.
+// Makes the plan of a way, and works out a frame that comes by a hook.
 fn try_all(alloc: Global, way: Way, hook: &[u8]) -> Result<(), Fail>
     requires { IsWorkable way }
 {
     let plan = Plan::share(alloc, way)?;
     let _outcome = eval_by(alloc, &plan, hook, &[2; 60])?;
-    let _next = without(alloc, &plan, &Name::read(hook)?)?;
     Ok(())
 }
 

@@ -1,11 +1,10 @@
 -- The number of a hook's filter leads to that filter.
-use Rattle.std.proofs.Common.{◌≡◌, ℕ, suc, ◌+◌, ◌<◌, Bool, true, false, not, if◌then◌else◌, List, [], ◌∷◌, length, get_or, find, AllPairs, Option, Some, None, bytes_eq, refl, sym, ap, ◌∙◌, inl, inr, arith}
+use Rattle.std.proofs.Common.{◌≡◌, ℕ, suc, ◌<◌, Bool, true, false, if◌then◌else◌, List, [], ◌∷◌, length, get_or, find, Option, Some, None, bytes_eq, refl, sym, ap, ◌∙◌, inl, inr, arith}
 use Rattle.std.specs.Option.{option_map}
 use Rattle.std.proofs.lemmas.Bool.{cases_Bool}
-use Rattle.std.proofs.lemmas.List.Kept.{AllPairs-filter}
 use Rattle.ng_base.proofs.NameLemmas.{differs_back, is_same}
 use Rattle.ng_machine.specs.declared.plan.VlanWay.{VlanWay}
-use Rattle.ng_machine.specs.Vlan.{filter_of_hook, filter_of_number, is_filter_of, without_filters_of}
+use Rattle.ng_machine.specs.Vlan.{filter_of_hook, filter_of_number, without_filters_of}
 use Rattle.ng_lookup.proofs.Searching.{ascends_far, find_at, get_at}
 use Rattle.ng_lookup.specs.Filters.{AreNumbersOf, IsByNumber}
 use Rattle.ng_lookup.specs.NameMap.{LeavesOut, Map, under}
@@ -44,12 +43,6 @@ led_by_number filters numbers hook number up are is = by (filter_of_hook hook fi
         ap (λ n. filter_of_number n filters) same ∙ found_by_number filters hook f up found ∙ sym found
 
 -- ---- without the filters of a hook
-
--- what is left is in order
-pub ascending_left : (filters : List VlanWay) (hook : List ℕ) → IsByNumber filters → IsByNumber (without_filters_of hook filters)
-ascending_left filters hook up k d low =
-    let pairs : AllPairs (λ (f g : VlanWay). f.vlan < g.vlan) filters = λ i j e less below. ascends_far (λ (f : VlanWay). f.vlan) filters i j e up less below in
-    AllPairs-filter (λ (f g : VlanWay). f.vlan < g.vlan) (λ f. not (is_filter_of hook f)) filters pairs k (k + 1) d (omega arith) low
 
 -- another hook's filter stays
 pub found_left : (filters : List VlanWay) (hook other : List ℕ)

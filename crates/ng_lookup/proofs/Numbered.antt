@@ -40,9 +40,5 @@ pub number_missing : (stem : List ℕ) (n : ℕ) (hook : List ℕ) → ((k : ℕ
 number_missing stem zero hook none = refl
 number_missing stem (suc n) hook none = rw (none n (omega arith)) (number_missing stem n hook (λ k less. none k (omega arith)))
 
--- the same of the links of a bridge
-pub link_found : (k : ℕ) (hook : List ℕ) → k < most_links → bytes_eq (link_hook k) hook ≡ true → k ≡ link_number hook
-link_found k hook below is = sym (ap (λ o. unwrap_or o most_links) (number_found (codes "link") most_links k hook below is))
-
 pub link_missing : (hook : List ℕ) → ((k : ℕ) → k < most_links → bytes_eq (link_hook k) hook ≡ false) → most_links ≡ link_number hook
 link_missing hook none = sym (ap (λ o. unwrap_or o most_links) (number_missing (codes "link") most_links hook none))

@@ -1,5 +1,5 @@
 // Entries that are found by their names.
-ghost use Rattle.std.specs.Prelude.{◌≡◌, not, filter, find, IfOk, OnOk, List, ℕ};
+ghost use Rattle.std.specs.Prelude.{◌≡◌, filter, find, IfOk, OnOk, List, ℕ};
 ghost use Rattle.std.specs.List.{list_any};
 ghost use Rattle.std.specs.Option.{option_copied};
 ghost use Rattle.ng_lookup.specs.ByName.{CutsPlace, has_the_name, IsIndexed, PutsFirst};
@@ -149,33 +149,6 @@ impl<T: Named> NameTable<T> {
         ensures { result.now ≡ self.now }
     {
         self.entries.as_slice()
-    }
-
-    /// The table of the entries that have another name than this, which are given. None of them is looked at, except
-    /// where more than one is missing.
-    ///
-    /// # Errors
-    /// `NoMemory` where memory ran out, and for nothing else.
-    pub fn without(
-        &self,
-        alloc: Global,
-        name: &Name,
-        kept: Sequence<T>,
-    ) -> Result<NameTable<T>, NoMemory>
-    where
-        T: Drop,
-        requires { kept ≡ filter (λ entry. not (has_the_name T.name_of name.now entry)) self.now }
-        ensures { IfOk result (λ table. table ≡ kept) }
-    {
-        let Some(place) = self.places.get(name) else {
-            return Ok(NameTable::with_places(kept, self.places.again(alloc)?));
-        };
-        if self.entries.as_slice().len() - kept.as_slice().len() > 1 {
-            return NameTable::new(alloc, kept);
-        }
-        let mut places = self.places.again(alloc)?;
-        cut_place(&mut places, name, place);
-        Ok(NameTable::with_places(kept, places))
     }
 
     /// The first entry of this name.

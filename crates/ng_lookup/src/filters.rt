@@ -1,9 +1,8 @@
 // The filters of a vlan node.
 ghost use Rattle.std.specs.Prelude.{◌≡◌, IfOk};
 ghost use Rattle.std.specs.Option.{option_copied};
-ghost use Rattle.ng_lookup.specs.Filters.{AreApart, AreNumbersOf, IsByNumber, without_number};
-ghost use Rattle.ng_lookup.specs.NameMap.{LeavesOut};
-ghost use Rattle.ng_machine.specs.Vlan.{filter_of_hook, filter_of_number, without_filters_of};
+ghost use Rattle.ng_lookup.specs.Filters.{AreApart, AreNumbersOf, IsByNumber};
+ghost use Rattle.ng_machine.specs.Vlan.{filter_of_hook, filter_of_number};
 
 use crate::by_name::{Places, find_named, places_of};
 use crate::name_map::NameMap;
@@ -41,61 +40,6 @@ impl Model for Filters {
     ghost invariant = { λ f. LeadsTo f.table f.by_hook };
 }
 
-/// The filters without those of a hook.
-fn filters_without(
-    alloc: Global,
-    filters: &[VlanWay],
-    hook: &Name,
-) -> Result<Vec<VlanWay>, NoMemory>
-    ensures { IfOk result (λ kept. kept.items ≡ without_filters_of hook.now filters.now) }
-{
-    let mut kept = Vec::from_slice(alloc, filters)?;
-    kept.retain(|filter| filter.hook != *hook);
-    Ok(kept)
-}
-
-/// Takes the filter of a number out.
-fn take_out(filters: &mut Vec<VlanWay>, number: u16)
-    requires { IsByNumber filters.old.items }
-    ensures { filters.new.items ≡ without_number number filters.old.items }
-{
-    if let Ok(place) = filters.binary_search_by_key(&number, |filter| filter.vlan) {
-        let _filter = filters.remove(place);
-    }
-}
-
-/// The filters without that of a hook, which its number finds.
-fn numbered_without(
-    alloc: Global,
-    filters: &[VlanWay],
-    numbers: &NameMap<u16>,
-    hook: &Name,
-) -> Result<Vec<VlanWay>, NoMemory>
-    requires ascending { IsByNumber filters.now }
-    requires numbers { AreNumbersOf filters.now numbers.now }
-    requires apart { AreApart filters.now }
-    ensures { IfOk result (λ kept. kept.items ≡ without_filters_of hook.now filters.now) }
-{
-    let mut kept = Vec::from_slice(alloc, filters)?;
-    if let Some(number) = numbers.get(hook) {
-        take_out(&mut kept, number);
-    }
-    Ok(kept)
-}
-
-/// The numbers without that of a hook.
-fn numbers_without(
-    alloc: Global,
-    numbers: &NameMap<u16>,
-    hook: &Name,
-) -> Result<NameMap<u16>, NoMemory>
-    ensures { IfOk result (LeavesOut numbers.now hook.now) }
-{
-    let mut kept = numbers.again(alloc)?;
-    kept.remove(hook);
-    Ok(kept)
-}
-
 impl Filters {
     /// These filters, whatever their order.
     ///
@@ -120,27 +64,6 @@ impl Filters {
         Filters {
             table: Table::ascending(filters),
             by_hook: ByHook::Numbers(numbers),
-        }
-    }
-
-    /// The filters without those of a hook. Where numbers lead to them the others are copied as memory, and not gone over.
-    ///
-    /// # Errors
-    /// `NoMemory` where memory ran out, and for nothing else.
-    #[tactic(auto, using(crate::proofs::HookNumbers::ascending_left, crate::proofs::HookNumbers::numbers_left, crate::proofs::Apart::apart_left))]
-    pub fn without(&self, alloc: Global, hook: &Name) -> Result<Filters, NoMemory>
-        ensures { IfOk result (λ made. made ≡ without_filters_of hook.now self.now) }
-    {
-        match &self.by_hook {
-            ByHook::Numbers(numbers) => {
-                let kept = numbered_without(alloc, self.as_slice(), numbers, hook)?;
-                let numbers = numbers_without(alloc, numbers, hook)?;
-                Ok(Filters::with_numbers(Sequence::from_vec(kept), numbers))
-            }
-            ByHook::Places(_) => {
-                let kept = filters_without(alloc, self.as_slice(), hook)?;
-                Filters::new(alloc, Sequence::from_vec(kept))
-            }
         }
     }
 

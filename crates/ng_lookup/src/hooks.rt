@@ -1,8 +1,8 @@
 // The hooks that a plan holds.
-ghost use Rattle.std.specs.Prelude.{◌≡◌, IfOk};
-ghost use Rattle.ng_base.specs.Names.{has_name, without_name};
+ghost use Rattle.std.specs.Prelude.{◌≡◌};
+ghost use Rattle.ng_base.specs.Names.{has_name};
 
-use ng_base::{Name, Names, NoMemory};
+use ng_base::{Name, Names};
 use std::alloc::Global;
 use std::marker::Model;
 
@@ -41,17 +41,5 @@ impl Hooks {
         ensures { result ≡ has_name self.now name.now }
     {
         self.names.has(name)
-    }
-
-    /// The names without this one.
-    ///
-    /// # Errors
-    /// `NoMemory` where memory ran out, and for nothing else.
-    pub fn without(&self, alloc: Global, name: &Name) -> Result<Names, NoMemory>
-        ensures { IfOk result (λ names. names ≡ without_name self.now name.now) }
-    {
-        let mut names = self.names.again(alloc)?;
-        names.remove(name);
-        Ok(names)
     }
 }

@@ -1,13 +1,12 @@
 // ng_bpf(4): a program decides where a packet goes.
-ghost use Rattle.std.specs.Prelude.{◌≡◌, not, IfOk, OnOk, filter as list_filter};
-ghost use Rattle.ng_machine.specs.Bpf.{by_match, filters, is_way_of, sends_and_counts, to_target};
+ghost use Rattle.std.specs.Prelude.{◌≡◌, OnOk};
+ghost use Rattle.ng_machine.specs.Bpf.{by_match, filters, sends_and_counts, to_target};
 ghost use Rattle.ng_machine.specs.Outcome.{counts_only, nothing};
-ghost use Rattle.ng_plan.specs.Without.{plan_without};
 
-use ng_base::{Name, NoMemory, Packet, Sequence};
+use ng_base::{Name, NoMemory, Packet};
 use ng_bpf_vm::run;
 use ng_lookup::{NameTable, count_packet, send};
-use ng_machine::{BpfWay, Door, Outcome, Plan as Way};
+use ng_machine::{BpfWay, Door, Outcome};
 use std::alloc::Global;
 
 /// The numbers of the counters `recvFrames`, `recvOctets`, `recvMatchFrames`, `recvMatchOctets`, `xmitFrames` and
@@ -40,35 +39,7 @@ fn send_and_count(hook: &Name, packet: &Packet, outcome: &mut Outcome) -> Result
     count_packet(&mut outcome.counts, XMIT_FRAMES, XMIT_OCTETS, hook, len)
 }
 
-/// What stands at the hooks beside one.
-fn ways_without(alloc: Global, ways: &[BpfWay], hook: &Name) -> Result<Sequence<BpfWay>, NoMemory>
-    ensures { IfOk result (λ kept. kept ≡ list_filter (λ way. not (is_way_of hook.now way)) ways.now) }
-{
-    let mut kept = Sequence::new(alloc);
-    for way in ways {
-        if way.hook != *hook {
-            kept.push(BpfWay {
-                hook: way.hook,
-                program: way.program.clone()?,
-                if_match: way.if_match,
-                if_not_match: way.if_not_match,
-            })?;
-        }
-    }
-    Ok(kept)
-}
-
 impl BpfPlan {
-    /// The plan without a hook, whose program goes with it.
-    pub fn without(&self, alloc: Global, hook: &Name) -> Result<BpfPlan, NoMemory>
-        ensures { IfOk result (λ next. Way.Bpf next.ways ≡ plan_without (Way.Bpf self.now.ways) hook.now) }
-    {
-        let kept = ways_without(alloc, self.ways.as_slice(), hook)?;
-        Ok(BpfPlan {
-            ways: self.ways.without(alloc, hook, kept)?,
-        })
-    }
-
     /// Out of a target, where it is there; what was counted before it stays counted.
     fn send_to_target(
         &self,

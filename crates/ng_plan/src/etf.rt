@@ -1,17 +1,15 @@
 // ng_etf(4): sorts frames by their ethertypes.
-ghost use Rattle.std.specs.Prelude.{◌≡◌, ◌≤◌, not, length, IfOk, OnOk};
+ghost use Rattle.std.specs.Prelude.{◌≡◌, ◌≤◌, length, OnOk};
 ghost use Rattle.std.specs.List.{filter};
 ghost use Rattle.std.specs.Option.{option_copied};
-ghost use Rattle.std.specs.Str.{bytes_eq};
 ghost use Rattle.ng_machine.specs.Etf.{etf_filter_of, ethertype_of, goes_back, goes_down, goes_up, is_own, is_short, sorts, upward};
 ghost use Rattle.ng_machine.specs.Outcome.{counts_only, nothing, sends_by};
-ghost use Rattle.ng_plan.specs.Without.{plan_without};
 
 use byteorder::{BigEndian, ByteOrder};
-use ng_base::{Errno, Name, NoMemory, Packet, Sequence};
+use ng_base::{Errno, Name, NoMemory, Packet};
 use ng_frame::MIN_FRAME_LEN;
 use ng_lookup::{Hooks, Table, downstream, is_named, nomatch, send, send_by};
-use ng_machine::{Door, EtfWay, Outcome, Plan as Way};
+use ng_machine::{Door, EtfWay, Outcome};
 use std::alloc::Global;
 
 /// The number of the counter `inFrames`.
@@ -52,26 +50,7 @@ fn is_own(hook: &Name, filter: Option<&EtfWay>) -> bool
     }
 }
 
-/// The filters without those of a hook.
-fn filters_without(alloc: Global, filters: &[EtfWay], hook: &Name) -> Result<Vec<EtfWay>, NoMemory>
-    ensures { IfOk result (λ kept. kept.items ≡ filter (λ f. not (bytes_eq f.hook hook.now)) filters.now) }
-{
-    let mut kept = Vec::from_slice(alloc, filters)?;
-    kept.retain(|filter| filter.hook != *hook);
-    Ok(kept)
-}
-
 impl EtfPlan {
-    /// The way without a hook, whose filters go with it.
-    pub fn without(&self, alloc: Global, hook: &Name) -> Result<Way, NoMemory>
-        ensures { IfOk result (λ way. way ≡ plan_without (Way.Etf self.now.hooks self.now.filters) hook.now) }
-    {
-        Ok(Way::Etf {
-            hooks: self.hooks.without(alloc, hook)?,
-            filters: Sequence::from_vec(filters_without(alloc, self.filters.as_slice(), hook)?),
-        })
-    }
-
     /// A packet goes out of `downstream`, where that is there, and is counted.
     fn go_down(&self, hook: &Name, frame: &Packet, outcome: &mut Outcome) -> Result<(), NoMemory>
         requires { outcome.old ≡ nothing }

@@ -1,5 +1,5 @@
 //! What a node's rule for packets reads of its state, as an immutable plan that packets share, and the rule:
-//! what becomes of a packet by a plan, and the plan of the node without one of its hooks.
+//! what becomes of a packet by a plan.
 #![tactic(auto)]
 
 mod bpf;
@@ -14,7 +14,6 @@ mod macset;
 mod operations;
 mod patch;
 mod plan;
-mod removal;
 mod socket;
 mod split;
 mod tee;
@@ -32,5 +31,4 @@ pub use ng_machine::{
     PatchOp, Plan as Way, Sends, VlanWay,
 };
 pub use plan::Plan;
-pub use removal::{cuts_plan, without};
 pub use vlan::VlanPlan;

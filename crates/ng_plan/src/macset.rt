@@ -1,16 +1,15 @@
 // macset: parts frames by whether their source is in a set of addresses. The type is this project's own.
-ghost use Rattle.std.specs.Prelude.{◌≡◌, IfOk, OnOk};
+ghost use Rattle.std.specs.Prelude.{◌≡◌, OnOk};
 ghost use Rattle.ng_machine.specs.Macset.{goes_by, has_address, picks, sifts};
 ghost use Rattle.ng_machine.specs.Outcome.{nothing};
-ghost use Rattle.ng_plan.specs.Without.{plan_without};
 
-use ng_base::{Errno, Name, NoMemory, Packet, Sequence};
+use ng_base::{Errno, Name, NoMemory, Packet};
 use ng_frame::MIN_FRAME_LEN;
 use ng_lookup::{
     Hooks, Table, address_number, all_hook, is_named, known_hook, other_hook, same_address, send,
     send_by, source_of,
 };
-use ng_machine::{Door, Outcome, Plan as Way};
+use ng_machine::{Door, Outcome};
 use std::alloc::Global;
 
 /// The number of the counter `knownFrames`.
@@ -40,16 +39,6 @@ fn has_address(set: &Table<[u8; 6]>, address: &[u8; 6]) -> bool
 }
 
 impl MacsetPlan {
-    /// The way without a hook.
-    pub fn without(&self, alloc: Global, hook: &Name) -> Result<Way, NoMemory>
-        ensures { IfOk result (λ way. way ≡ plan_without (Way.Macset self.now.hooks self.now.set) hook.now) }
-    {
-        Ok(Way::Macset {
-            hooks: self.hooks.without(alloc, hook)?,
-            set: Sequence::from_vec(Vec::from_slice(alloc, self.set.as_slice())?),
-        })
-    }
-
     /// A frame goes out of a hook, where that is there, and is counted.
     fn go_by(
         &self,

@@ -1,16 +1,14 @@
 // ng_patch(4): changes packets by arithmetic at places.
-ghost use Rattle.std.specs.Prelude.{◌≡◌, ◌-◌, ◌^◌, ◌<◌, ◌≤◌, nat_lt, true, IfOk, OnOk, slice_index_or};
+ghost use Rattle.std.specs.Prelude.{◌≡◌, ◌-◌, ◌^◌, ◌<◌, ◌≤◌, nat_lt, true, OnOk, slice_index_or};
 ghost use Rattle.std.specs.List.{fold};
 ghost use Rattle.ng_machine.specs.Outcome.{nothing};
 ghost use Rattle.ng_machine.specs.Patch.{is_op, modes, operation_result, patch_by, patches, shift_left, shift_right, width};
-ghost use Rattle.ng_plan.specs.Way.{IsWorkable};
-ghost use Rattle.ng_plan.specs.Without.{plan_without};
 
 use crate::operations::Operations;
 use byteorder::{BigEndian, ByteOrder};
-use ng_base::{Name, NoMemory, Packet, Sequence};
+use ng_base::{Name, NoMemory, Packet};
 use ng_lookup::{Hooks, in_hook, is_named, out_hook, send, send_by};
-use ng_machine::{Door, Outcome, PatchOp, Plan as Way};
+use ng_machine::{Door, Outcome, PatchOp};
 use std::alloc::Global;
 
 /// What a patch node works by: its hooks and its operations.
@@ -117,17 +115,6 @@ fn patch_all(packet: &mut [u8], ops: &Operations)
 }
 
 impl PatchPlan {
-    /// The way without a hook.
-    pub fn without(&self, alloc: Global, hook: &Name) -> Result<Way, NoMemory>
-        ensures way { IfOk result (λ way. way ≡ plan_without (Way.Patch self.now.hooks self.now.ops) hook.now) }
-        ensures workable { IfOk result IsWorkable }
-    {
-        Ok(Way::Patch {
-            hooks: self.hooks.without(alloc, hook)?,
-            ops: Sequence::from_vec(Vec::from_slice(alloc, self.ops.as_slice())?),
-        })
-    }
-
     /// A packet that comes by a hook.
     fn work_by(
         &self,

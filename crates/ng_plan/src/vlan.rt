@@ -1,16 +1,15 @@
 // ng_vlan(4): parts the frames of VLANs by their tags, and tags them on the way back.
-ghost use Rattle.std.specs.Prelude.{◌≡◌, IfOk, OnOk, Some};
+ghost use Rattle.std.specs.Prelude.{◌≡◌, OnOk, Some};
 ghost use Rattle.std.specs.Int.{to_be_bytes, w16};
 ghost use Rattle.std.specs.Option.{option_copied};
 ghost use Rattle.ng_frame.specs.Frame.{IsTagged, tag_of};
 ghost use Rattle.ng_machine.specs.Outcome.{nothing};
 ghost use Rattle.ng_machine.specs.Vlan.{by_tag, control_of, filter_of_hook, into_filter, out_of_filter, tags};
-ghost use Rattle.ng_plan.specs.Without.{plan_without};
 
 use ng_base::{Errno, Name, NoMemory, Packet};
 use ng_frame::{MAX_UNTAGGED_LEN, MIN_FRAME_LEN, untag, with_tag, without_tag};
 use ng_lookup::{Filters, Hooks, downstream, is_named, nomatch, send_by};
-use ng_machine::{Door, Outcome, Plan as Way, VlanWay};
+use ng_machine::{Door, Outcome, VlanWay};
 use std::alloc::Global;
 
 /// What a vlan node works by: its hooks, the tag protocol identifier of its tags, and its filters.
@@ -31,19 +30,6 @@ fn control_of(filter: &VlanWay) -> u16
 }
 
 impl VlanPlan {
-    /// The plan without a hook, whose filter goes with it.
-    pub(crate) fn without(&self, alloc: Global, hook: &Name) -> Result<VlanPlan, NoMemory>
-        ensures { IfOk result (λ next.
-            Way.Vlan next.hooks next.kind next.filters
-            ≡ plan_without (Way.Vlan self.now.hooks self.now.kind self.now.filters) hook.now) }
-    {
-        Ok(VlanPlan {
-            hooks: Hooks::new(self.hooks.without(alloc, hook)?),
-            kind: self.kind,
-            filters: self.filters.without(alloc, hook)?,
-        })
-    }
-
     /// A tagged frame out of its filter's hook without the tag, and out of `nomatch` where there is none.
     fn send_untagged(
         &self,

@@ -1,7 +1,0 @@
--- What is retained is what the test lets through.
-use Rattle.std.proofs.Common.{rules}
-use Rattle.std.proofs.lemmas.Fn.{filter_same}
-use Rattle.ng_bridge_plan.proofs.bridge.hosts_without.Goals as goal
-
-pub returns : goal.returns
-returns c = rw (← c.in_ok-kept.ensures.items) (filter_same _ _ _ (λ x b f' k. search rules) _ _ c.retain.ensures.filtered)
