@@ -90,16 +90,16 @@ distinct_added (first ∷ names) name distinct lacks = elim (cases_Bool (bytes_e
   | inr differs ↦ (lacks_more names name first distinct.0 (differs_back first name differs), distinct_added names name distinct.1 (rw differs at lacks))
 ]
 
-pub added : (s : List Filter) (m k n : Map ℕ) (hook : List ℕ) → ArePlaced s m → has_filter s hook ≡ false → IsSame m k → PutsUnder k hook (length s) n
+pub added : (s : List Filter) (m n : Map ℕ) (hook : List ℕ) → ArePlaced s m → has_filter s hook ≡ false → PutsUnder m hook (length s) n
     → ArePlaced (bpf_with_hook s hook) n
-added s m k n hook placed lacks same puts = record {
+added s m n hook placed lacks puts = record {
   distinct = subst (λ (names : List (List ℕ)). AreDistinct names) (sym (hooks_with s hook)) (distinct_added (hooks_of s) hook placed.distinct (named s hook ∙ lacks));
   indexed = λ name. puts name ∙ elim (cases_Bool (bytes_eq hook name)) [
     | inl is ↦
         let none : position_from (is_of_hook name) 0 s ≡ None =
         subst (λ (n : List ℕ). position_from (is_of_hook n) 0 s ≡ None) (is_same hook name is) (sym (placed.indexed hook) ∙ has_no_place s m hook placed lacks) in
         rw is (sym (place_behind (is_of_hook name) 0 (length s) s (new_filter hook) (omega arith) none is))
-    | inr apart ↦ rw apart (same name ∙ placed.indexed name ∙ sym (place_before (is_of_hook name) 0 s (new_filter hook) apart))
+    | inr apart ↦ rw apart (placed.indexed name ∙ sym (place_before (is_of_hook name) 0 s (new_filter hook) apart))
   ];
 }
 

@@ -8,7 +8,7 @@ ghost use Rattle.ng_machine.specs.Counters.{after_counts, raise_at, zeros};
 
 use crate::filter::Filter;
 use ng_base::{Name, NoMemory, Sequence};
-use ng_lookup::{NameMap, NameTable, Places, cut_place, find_named};
+use ng_lookup::{NameTable, Places, find_named};
 use ng_machine::BpfWay;
 use std::alloc::Global;
 use std::marker::Model;
@@ -53,7 +53,7 @@ impl Filters {
     {
         Filters {
             filters: Vec::new(alloc),
-            places: NameMap::new(alloc),
+            places: Places::new(alloc),
         }
     }
 
@@ -86,7 +86,8 @@ impl Filters {
     /// Adds a hook of a new name at the end, as a new hook is.
     ///
     /// # Errors
-    /// `NoMemory` where memory ran out, and for nothing else; the hooks are then as before.
+    /// `NoMemory` where memory ran out, or where 2^64 - 1 hooks were added, so that no number is left for its place; the
+    /// hooks are then as before.
     pub fn add(&mut self, alloc: Global, hook: &Name) -> Result<(), NoMemory>
         requires { has_filter self.old hook.now ≡ false }
         ensures ok { OnOk result (self.new ≡ bpf_with_hook self.old hook.now) }
@@ -94,8 +95,7 @@ impl Filters {
     {
         let filter = Filter::new(alloc, hook)?;
         self.filters.reserve(1)?;
-        self.places.reserve()?;
-        self.places.put(*hook, self.filters.len());
+        self.places.put(*hook, self.filters.len())?;
         self.filters.push_reserved(filter);
         Ok(())
     }
@@ -105,7 +105,7 @@ impl Filters {
         ensures { self.new ≡ bpf_without_hook self.old hook.now }
     {
         if let Some(place) = self.places.get(hook) {
-            cut_place(&mut self.places, hook, place);
+            self.places.cut(hook, place);
             let _filter = self.filters.remove(place);
         }
     }

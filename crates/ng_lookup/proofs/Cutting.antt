@@ -1,36 +1,21 @@
 -- An entry that is taken out: the places of those behind it go one down.
-use Rattle.std.proofs.Common.{◌≡◌, ℕ, zero, suc, ◌+◌, ◌-◌, ◌<◌, ◌≤◌, nat_lt, Bool, true, false, not, List, [], ◌∷◌, ◌++◌, length, filter, map, take, drop, get_or, remove, Some, None, refl, sym, ap, ◌∙◌, inl, inr, arith}
+use Rattle.std.proofs.Common.{◌≡◌, ℕ, zero, suc, ◌+◌, ◌-◌, ◌<◌, ◌≤◌, nat_lt, Bool, true, false, not, List, [], ◌∷◌, length, filter, get_or, remove, Some, None, refl, sym, ap, ◌∙◌, inl, inr, arith}
 use Rattle.std.specs.List.{position_from}
 use Rattle.std.specs.Option.{option_map}
 use Rattle.std.specs.Str.{bytes_eq}
-use Rattle.std.proofs.Math.Seq.{take-append_seam}
 use Rattle.std.proofs.lemmas.Bool.{cases_Bool}
 use Rattle.std.proofs.lemmas.Bool.Decides.{nat_tests}
 use Rattle.ng_base.proofs.NameLemmas.{is_same}
 use Rattle.ng_lookup.specs.ByName.{CutsPlace, has_the_name, IsIndexed}
-use Rattle.ng_lookup.specs.NameMap.{Map, down_above, under, value_under}
+use Rattle.ng_lookup.specs.NameMap.{Map, down_above, under}
 use Rattle.ng_lookup.proofs.Naming.{at_place}
 
 -- ---- numbers that go down
 
--- what stands under a name, where each value is changed
-pub under_map : {V W : Type 0} (f : V → W) (names : List (List ℕ)) (values : List V) (name : List ℕ)
-    → value_under names (map f values) name ≡ option_map f (value_under names values name)
-under_map f [] values name = refl
-under_map f (first ∷ names) [] name = refl
-under_map f (first ∷ names) (value ∷ values) name = elim (cases_Bool (bytes_eq first name)) [
-  | inl is ↦ rw is refl
-  | inr other ↦ rw other (under_map f names values name)
-]
-
--- the values that were lent come back whole
-pub lent : {V : Type 0} (news values : List V) (n : ℕ) → length news ≡ length values → n ≡ length values → take n (news ++ drop (length news) values) ≡ news
-lent news values n same long = ap (λ k. take k (news ++ drop (length news) values)) (long ∙ sym same) ∙ take-append_seam news (drop (length news) values)
-
-goes_down : (above value : ℕ) → above < value → down_above above value ≡ value - 1
+pub goes_down : (above value : ℕ) → above < value → down_above above value ≡ value - 1
 goes_down above value less = let test : nat_lt above value ≡ true = grind (arith, nat_tests, less) in rw test refl
 
-stays : (above value : ℕ) → value ≤ above → down_above above value ≡ value
+pub stays : (above value : ℕ) → value ≤ above → down_above above value ≡ value
 stays above value least = let test : nat_lt above value ≡ false = grind (arith, nat_tests, least) in rw test refl
 
 -- ---- places

@@ -5,4 +5,6 @@ pub mod Cutting
 pub mod NameMaps
 pub mod Naming
 pub mod Numbered
+pub mod Orders
+pub mod Placing
 pub mod Searching

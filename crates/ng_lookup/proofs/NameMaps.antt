@@ -1,7 +1,8 @@
 -- Values under names: what a binary search finds, and what an edit leaves.
-use Rattle.std.proofs.Common.{◌≡◌, ℕ, zero, suc, ◌<◌, ◌≤◌, ◌+◌, is_some, true, false, ◌||◌, if◌then◌else◌, List, [], ◌∷◌, length, get_or, HoldsAt, Some, None, Ok, Err, Equal, nat_cmp, is_eq, insert, remove, bytes_eq, refl, sym, ap, ◌∙◌, inl, inr, arith, true≢false}
+use Rattle.std.proofs.Common.{◌≡◌, ℕ, zero, suc, ◌<◌, ◌≤◌, ◌+◌, is_some, true, false, ◌||◌, if◌then◌else◌, List, [], ◌∷◌, length, map, get_or, HoldsAt, Some, None, Ok, Err, Equal, nat_cmp, is_eq, insert, remove, bytes_eq, refl, sym, ap, ◌∙◌, inl, inr, arith, true≢false}
 use Rattle.std.specs.Cmp.Lexicographic.{slice_cmp, texts_ties}
 use Rattle.std.specs.List.{position_from}
+use Rattle.std.specs.Option.{option_map}
 use Rattle.std.specs.List.Sorted.{IsBinarySearchResult}
 use Rattle.std.proofs.lemmas.Bool.{cases_Bool}
 use Rattle.std.proofs.lemmas.List.Edits.{length-insert, length-remove}
@@ -93,6 +94,16 @@ pub searched_none : {V : Type 0} (names : List (List ℕ)) (values : List V) (at
     → IsBinarySearchResult (λ other. slice_cmp nat_cmp other name) names (Ok at) → value_under names values name ≡ None → ⊥
 searched_none names values at name map within equal none =
     has_value names values name map.long (sym (has_searched names name (Ok at) map.in_order within equal)) none
+
+-- what stands under a name, where each value is changed
+pub under_map : {V W : Type 0} (f : V → W) (names : List (List ℕ)) (values : List V) (name : List ℕ)
+    → value_under names (map f values) name ≡ option_map f (value_under names values name)
+under_map f [] values name = refl
+under_map f (first ∷ names) [] name = refl
+under_map f (first ∷ names) (value ∷ values) name = elim (cases_Bool (bytes_eq first name)) [
+  | inl is ↦ rw is refl
+  | inr other ↦ rw other (under_map f names values name)
+]
 
 -- ---- a name that is put in
 

@@ -1,6 +1,5 @@
 -- Values under names.
 use Rattle.std.specs.Prelude.{◌≡◌, ℕ, ◌-◌, nat_lt, false, if◌then◌else◌, List, [], ◌∷◌, length, Option, Some, None}
-use Rattle.std.specs.Option.{option_map}
 use Rattle.std.specs.Str.{bytes_eq}
 use Rattle.ng_base.specs.NameIndex.{IsInOrder}
 use Rattle.ng_base.specs.Names.{has_name}
@@ -46,7 +45,3 @@ LeavesOut old name new = (other : List ℕ) → under new other ≡ (if bytes_eq
 -- a number above another goes one down
 abbrev pub down_above : ℕ → ℕ → ℕ
 down_above above value = if nat_lt above value then value - 1 else value
-
--- the numbers above one go one down, each under its name
-abbrev pub ShiftsDown : Map ℕ → ℕ → Map ℕ → Type 0
-ShiftsDown old above new = (name : List ℕ) → under new name ≡ option_map (down_above above) (under old name)

@@ -2,9 +2,9 @@
 ghost use Rattle.std.specs.Prelude.{◌≡◌, filter, find, IfOk, OnOk, List, ℕ};
 ghost use Rattle.std.specs.List.{list_any};
 ghost use Rattle.std.specs.Option.{option_copied};
-ghost use Rattle.ng_lookup.specs.ByName.{CutsPlace, has_the_name, IsIndexed, PutsFirst};
+ghost use Rattle.ng_lookup.specs.ByName.{has_the_name, IsIndexed, PutsFirst};
 
-use crate::name_map::NameMap;
+use crate::places::Places;
 use ng_base::{Name, NoMemory, Sequence};
 use ng_machine::{BpfWay, BridgeLink, VlanWay};
 use std::alloc::Global;
@@ -56,16 +56,12 @@ impl Named for BridgeLink {
     }
 }
 
-/// The places of entries in their list, under their names.
-pub type Places = NameMap<usize>;
-
 /// Puts a place under a name, where there is none yet.
 fn put_first(places: &mut Places, name: Name, place: usize) -> Result<(), NoMemory>
     ensures { OnOk result (PutsFirst places.old places.new name place) }
 {
     if places.get(&name).is_none() {
-        places.reserve()?;
-        places.put(name, place);
+        places.put(name, place)?;
     }
     Ok(())
 }
@@ -77,19 +73,11 @@ fn put_first(places: &mut Places, name: Name, place: usize) -> Result<(), NoMemo
 pub fn places_of<T: Named>(alloc: Global, entries: &[T]) -> Result<Places, NoMemory>
     ensures { IfOk result (IsIndexed T.name_of entries.now) }
 {
-    let mut places = NameMap::new(alloc);
+    let mut places = Places::new(alloc);
     for place in 0..entries.len() {
         put_first(&mut places, entries[place].name(), place)?;
     }
     Ok(places)
-}
-
-/// Takes the place of a name out. Those behind it go one down, as the entries do where that at the place is taken out.
-pub fn cut_place(places: &mut Places, name: &Name, place: usize)
-    ensures { CutsPlace places.old name.now place places.new }
-{
-    places.remove(name);
-    places.shift_down(place);
 }
 
 /// The first entry of a name, by the places of entries.

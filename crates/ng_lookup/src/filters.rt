@@ -4,8 +4,9 @@ ghost use Rattle.std.specs.Option.{option_copied};
 ghost use Rattle.ng_lookup.specs.Filters.{AreApart, AreNumbersOf, IsByNumber};
 ghost use Rattle.ng_machine.specs.Vlan.{filter_of_hook, filter_of_number};
 
-use crate::by_name::{Places, find_named, places_of};
+use crate::by_name::{find_named, places_of};
 use crate::name_map::NameMap;
+use crate::places::Places;
 use crate::table::Table;
 use ng_base::{Name, NoMemory, Sequence};
 use ng_machine::VlanWay;

@@ -9,12 +9,14 @@ mod hooks;
 mod key;
 mod name_map;
 mod names;
+mod order;
 mod outcomes;
+mod places;
 mod sending;
 mod table;
 
 pub use addresses::{destination_of, is_broadcast, is_group, source_of};
-pub use by_name::{NameTable, Named, Places, cut_place, find_named};
+pub use by_name::{NameTable, Named, find_named};
 pub use filters::Filters;
 pub use hooks::Hooks;
 pub use key::{Key, address_number, same_address};
@@ -24,5 +26,6 @@ pub use names::{
     lower, many, mixed, nomatch, one, other_hook, out_hook, right, right2left, upper,
 };
 pub use outcomes::{answers, fails, leave, nothing, send, send_by};
+pub use places::Places;
 pub use sending::{count_packet, count_packets, send_to};
 pub use table::Table;

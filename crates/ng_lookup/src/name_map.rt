@@ -1,8 +1,8 @@
 // Values that are found by their names.
-ghost use Rattle.std.specs.Prelude.{◌≡◌, ◌<◌, map, None, IfOk, OnOk, ℕ, List};
+ghost use Rattle.std.specs.Prelude.{◌≡◌, ◌<◌, None, IfOk, OnOk, ℕ, List};
 ghost use Rattle.std.specs.List.{position_from};
 ghost use Rattle.std.specs.Str.{bytes_eq};
-ghost use Rattle.ng_lookup.specs.NameMap.{IsSame, LeavesOut, PutsUnder, ShiftsDown, down_above, under};
+ghost use Rattle.ng_lookup.specs.NameMap.{IsSame, LeavesOut, PutsUnder, under};
 
 use ng_base::{Name, NoMemory};
 use std::alloc::Global;
@@ -122,32 +122,5 @@ impl<V: Copy> NameMap<V> {
             names: Vec::from_slice(alloc, &self.names)?,
             values: Vec::from_slice(alloc, &self.values)?,
         })
-    }
-}
-
-/// A number above another goes one down.
-fn lower_above(value: &mut usize, above: usize)
-    ensures { value.new ≡ down_above above value.old }
-{
-    if *value > above {
-        *value -= 1;
-    }
-}
-
-/// Each number above another goes one down.
-fn lower_all_above(values: &mut [usize], above: usize)
-    ensures { values.new ≡ map (down_above above) values.old }
-{
-    for value in values.iter_mut() {
-        lower_above(value, above);
-    }
-}
-
-impl NameMap<usize> {
-    /// Lets the numbers above one go one down, as the places behind an entry do that is taken out.
-    pub fn shift_down(&mut self, above: usize)
-        ensures { ShiftsDown self.old above self.new }
-    {
-        lower_all_above(&mut self.values, above);
     }
 }

@@ -6,10 +6,8 @@ use Rattle.ng_bpf_type.proofs.Places.{added, has_no_place}
 use Rattle.ng_bpf_type.specs.Filters.{ArePlaced}
 use Rattle.ng_bpf_type.proofs.filters.Filters.add.Goals as goal
 
-pub put-requires-clause-fresh : goal.put-requires-clause-fresh
-put-requires-clause-fresh c =
-    c.in_ok-reserve-2.ensures.same c.args.hook.now
-    ∙ has_no_place c.self.inside.filters.items c.self.inside.places c.args.hook.now c.self.invariant (rw (← c.self.view_is) at c.requires)
+pub put-requires : goal.put-requires
+put-requires c = has_no_place c.self.inside.filters.items c.self.inside.places c.args.hook.now c.self.invariant (rw (← c.self.view_is) at c.requires)
 
 pub invariant_of-self-2 : goal.invariant_of-self-2
 invariant_of-self-2 c =
@@ -19,6 +17,6 @@ invariant_of-self-2 c =
     ∙ ap (λ (filters : List Filter). filters ++ c.in_ok-filter.filter ∷ []) c.reserve.ensures.items
     ∙ ap (λ (f : Filter). s ++ f ∷ []) c.in_ok-filter.ensures in
     let long : c.len.result ≡ length s = c.len.ensures ∙ c.reserve.ensures.len ∙ search rules in
-    let puts = subst (λ (place : ℕ). PutsUnder c.reserve-2.new.self c.args.hook.now place c.put.new.self) long c.put.ensures in
+    let puts = subst (λ (place : ℕ). PutsUnder c.self.inside.places c.args.hook.now place c.put.new.self) long c.in_ok-put.ensures.ok in
     subst (λ (filters : List Filter). ArePlaced filters c.put.new.self) (sym items)
-    (added s c.self.inside.places c.reserve-2.new.self c.put.new.self c.args.hook.now c.self.invariant (rw (← c.self.view_is) at c.requires) c.in_ok-reserve-2.ensures.same puts)
+    (added s c.self.inside.places c.put.new.self c.args.hook.now c.self.invariant (rw (← c.self.view_is) at c.requires) puts)

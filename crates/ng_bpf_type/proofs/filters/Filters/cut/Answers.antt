@@ -13,9 +13,9 @@ remove-filter-requires c =
 
 pub invariant_of-self : goal.invariant_of-self
 invariant_of-self c =
-    subst (λ (filters : List Filter). ArePlaced filters c.cut_place.new.places) (sym c.remove-filter.ensures.items)
-    (cut c.self.inside.filters.items c.self.inside.places c.cut_place.new.places c.args.hook.now c.in-Some.place c.self.invariant
-    (sym c.in-Some.is ∙ c.get.ensures) c.cut_place.ensures)
+    subst (λ (filters : List Filter). ArePlaced filters c.cut.new.self) (sym c.remove-filter.ensures.items)
+    (cut c.self.inside.filters.items c.self.inside.places c.cut.new.self c.args.hook.now c.in-Some.place c.self.invariant
+    (sym c.in-Some.is ∙ c.get.ensures) c.cut.ensures)
 
 pub returns-in-Some : goal.returns-in-Some
 returns-in-Some c =
