@@ -8,7 +8,7 @@ ghost use Rattle.ng_machine.specs.State.{kind_of};
 ghost use Rattle.ng_printable.specs.Scripts.{InputsAreFit};
 ghost use Rattle.ng_run.specs.Stocked.{IsStocked};
 ghost use Rattle.ng_run.specs.CoreStory.{story};
-ghost use Rattle.ng_story.specs.Story.{run_state_of, world_of};
+ghost use Rattle.ng_story.specs.Story.{world_of};
 ghost use Rattle.ng_words.specs.Together.{are_ports};
 ghost use Rattle.ngctl_script.specs.Held.{AreCommands};
 ghost use Rattle.ng_forecast.specs.Arrivals.{packets_among};
@@ -61,7 +61,7 @@ fn know_commands(script: &Script)
     inputs_are_fit();
 }
 
-/// A core whose world stands as the commands in front of every mark leave it. Nothing is taken.
+/// A core whose world stands as the commands in front of every mark leave it.
 ///
 /// # Errors
 /// `NoMemory` where memory ran out, and for nothing else.
@@ -76,7 +76,6 @@ pub(crate) fn run_commands<B: Node>(
     ensures run { IfOk result (λ core. IsRun (setting_of (map (λ b. kind_of (B.state b)) stock.items) words.now script) core.journal) }
     ensures world { IfOk result (λ core. world_of (story core) ≡ world_after (setting_of (map (λ b. kind_of (B.state b)) stock.items) words.now script) core.journal) }
     ensures ports { IfOk result (λ core. length (world_of (story core)).ports ≡ length words.now.ports) }
-    ensures rest { IfOk result (λ core. (run_state_of (story core)).taken ≡ []) }
 {
     let ports = names_of(alloc, words.ports.as_slice())?;
     know_commands(&script);

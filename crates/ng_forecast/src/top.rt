@@ -6,7 +6,7 @@ ghost use Rattle.ng_machine.specs.State.{kind_of};
 ghost use Rattle.ng_outside.specs.Contents.{Contents};
 ghost use Rattle.ng_machine.specs.Spread.{spread_all, spread_in};
 ghost use Rattle.ng_run.specs.CoreStory.{story};
-ghost use Rattle.ng_story.specs.Story.{run_state_of, world_of};
+ghost use Rattle.ng_story.specs.Story.{world_of};
 ghost use Rattle.ng_forecast.specs.Packets.{packet_fault};
 ghost use Rattle.ng_forecast.specs.declared.ended.ForecastFault.TheVariants.{NoMemory as no_memory};
 ghost use Rattle.ng_run.specs.Parts.{of_files, storing, outside, counting};
@@ -68,7 +68,6 @@ fn gather_captures<B: Node>(
     core: &Core<B>,
     captures: Vec<Capture>,
 ) -> Result<Spread, ForecastFault>
-    requires rest { (run_state_of (story core.now)).taken ≡ [] }
     requires captures { length captures.items ≡ length (world_of (story core.now)).ports }
     requires few { length captures.items ≤ 64 }
     requires early { All (λ capture. All IsEarly capture.kept) captures.items }

@@ -189,11 +189,12 @@ impl<B: Node> GraphAtRest<B> {
 
     /// Hands a node's box out and takes it back.
     #[tactic(auto, using(crate::proofs::AtRest::given))]
-    pub(crate) fn lend_and_give(&mut self, id: NodeId) -> Result<(), Fail> {
+    pub(crate) fn lend_and_give(&mut self, alloc: Global, id: NodeId) -> Result<(), Fail> {
         if !is_there(&self.graph, id) {
             return Err(Errno::NOENT)?;
         }
-        let node = self.graph.lend(id);
+        let plan = self.graph.share_plan(alloc, id)?;
+        let node = self.graph.lend(id, plan);
         self.graph.give(id, node);
         Ok(())
     }

@@ -182,7 +182,7 @@ fn take<B: Node>(graph: &mut GraphAtRest<B>, alloc: Global, step: &Step) -> Resu
         }
         Step::Connect(ours, theirs) => connect(graph, alloc, &end(ours)?, &end(theirs)?),
         Step::Lend(node) => {
-            graph.lend_and_give(NodeId(*node))?;
+            graph.lend_and_give(alloc, NodeId(*node))?;
             Ok(true)
         }
         Step::Plan(node) => graph.plan(alloc, NodeId(*node)),

@@ -3,17 +3,14 @@ use Rattle.std.proofs.Common.{◌≡◌, ◌∙◌, ℕ, List, [], ◌∷◌, �
 use Rattle.ng_base.specs.declared.cause.Cause.TheVariants.{Budget}
 use Rattle.ng_machine.specs.Change.{drops_for}
 use Rattle.ng_machine.specs.LowRun.{IsLow}
-use Rattle.ng_machine.specs.World.{NodeRecord, World, node_id, node_in}
-use Rattle.std.specs.Prelude.{is_some}
-use Rattle.std.specs.declared.option.Option.{Option}
-use Rattle.std.specs.declared.option.Option.TheVariants.{None, Some}
+use Rattle.ng_machine.specs.World.{World}
+use Rattle.std.specs.declared.option.Option.TheVariants.{Some}
 use Rattle.ng_base.specs.declared.event.Event.{Event}
 use Rattle.ng_base.specs.declared.event.Event.TheVariants.{Stop}
 use Rattle.ng_story.specs.Closing.{stopped_if}
 use Rattle.ng_story.specs.DeskLaws.{stop_events}
 use Rattle.ng_story.specs.Story.{Story, run_state_of, world_of}
 use Rattle.ng_story.proofs.SoundStories.{at_more}
-use Rattle.ng_seats.specs.Planned.{AreAtHome}
 use Rattle.ng_seats.specs.Stops.{stopped_run}
 use Rattle.ng_machine.specs.declared.item.Item.{Item}
 use Rattle.ng_machine.specs.Run.{RunState, Taken, stop}
@@ -26,7 +23,7 @@ use Rattle.ng_tally.proofs.CountsOfWorld.{counts_are_of_world}
 use Rattle.ng_tie.specs.Tie.{at, is_out}
 use Rattle.ng_tie.proofs.Heads.{all_wait}
 use Rattle.ng_topology.specs.OfWorld.{IsOfWorld}
-use Rattle.ng_topology.specs.Topology.{Topology, is_home}
+use Rattle.ng_topology.specs.Topology.{Topology}
 use Rattle.ng_world.specs.declared.state.State.{State}
 use Rattle.ng_world.specs.Lent.{Lent}
 use Rattle.ng_world.specs.Stands.{Stands, port_of}
@@ -38,20 +35,8 @@ none_out id taken none = ap (is_out id) none
 pub all_waits : {B : Type 0} (s : State B) (a : RunState) → Stands s a → a.taken ≡ [] → (n : ℕ) → AllWait (list_at s.pending.queues.lists n)
 all_waits s a S none n = subst AllWait (sym (S.items.tied n)) (all_wait a.taken (at n a.world.pending) (λ q h. none_out q.id.0 a.taken none))
 
-none_away : (t : Topology) (pending : List Item) (taken : List Taken) → taken ≡ [] → Lent t pending taken → (n : ℕ) (node : NodeRecord) → node_in t.nodes (node_id n) ≡ Some node → is_home t (node_id n) ≡ false → ⊥
-none_away t pending taken none L n node is away = let W = L n node is away in true≢false (sym W.is_taken ∙ none_out W.item.id.0 taken none)
-
 none_lent : (t : Topology) (pending : List Item) (taken : List Taken) → taken ≡ [] → Lent t pending taken → Lent t [] taken
-none_lent t pending taken none L n node is away = absurd (none_away t pending taken none L n node is away)
-
--- where nothing is taken, each node is at home
-pub all_at_home : {B : Type 0} (s : State B) (a : RunState) → Stands s a → a.taken ≡ [] → AreAtHome s.graph
-all_at_home s a S none id there = by (node_in s.graph.nodes id) refl (is_home s.graph id) refl
-  where
-    by : (o : Option NodeRecord) → node_in s.graph.nodes id ≡ o → (b : Bool) → is_home s.graph id ≡ b → is_home s.graph id ≡ true
-    by o is true e = e
-    by None is false e = absurd (true≢false (sym there ∙ ap is_some is))
-    by (Some node) is false e = absurd (none_away s.graph a.world.pending a.taken none S.lent id.0 node is e)
+none_lent t pending taken none L n node is away = let W = L n node is away in absurd (true≢false (sym W.is_taken ∙ none_out W.item.id.0 taken none))
 
 pub stands_stopped : {B : Type 0} (s t : State B) (a : RunState) → Stands s a → a.taken ≡ [] → ((n : ℕ) → list_at t.pending.queues.lists n ≡ []) → length t.pending.queues.lists ≡ length s.pending.queues.lists
     → t.pending.tally ≡ stopped s.pending.tally → t.pending.out ≡ s.pending.out → t.graph ≡ s.graph → t.told.items ≡ s.told.items → t.ports.items ≡ s.ports.items → Stands t (in_world a (stop a.world))

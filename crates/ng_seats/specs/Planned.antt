@@ -4,12 +4,7 @@ use Rattle.ng_base.specs.declared.ids.NodeId.{NodeId}
 use Rattle.ng_machine.specs.declared.plan.Plan.{Plan}
 use Rattle.ng_machine.specs.LowRun.{most_ports}
 use Rattle.ng_machine.specs.World.{NodeRecord, node_in}
-use Rattle.ng_topology.specs.Topology.{Topology, IsAtHome, IsThere}
 use Rattle.ng_seats.specs.StillWorld.{StillWorld, way_at}
-
--- each node that is there is at home
-abbrev pub AreAtHome : Topology → Type 0
-AreAtHome t = (id : NodeId) → IsThere t id → IsAtHome t id
 
 -- each number has the plan of its node, where that is there and has one
 abbrev pub HasPlans : List (Option NodeRecord) → List (Option Plan) → Type 0

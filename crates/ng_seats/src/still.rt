@@ -1,13 +1,13 @@
 // A core's world while it stands still.
-ghost use Rattle.std.specs.Prelude.{◌≡◌, ◌≤◌, [], length, is_some, map, IfOk};
+ghost use Rattle.std.specs.Prelude.{◌≡◌, ◌≤◌, length, is_some, map, IfOk};
 ghost use Rattle.std.specs.Arc.{arc_value};
 ghost use Rattle.std.specs.Option.{option_map, option_copied};
 ghost use Rattle.ng_machine.specs.World.{node_in, kind_at, hook_at};
 ghost use Rattle.ng_topology.specs.Topology.{linked_hook_at};
 ghost use Rattle.ng_seats.specs.CoreStory.{story};
-ghost use Rattle.ng_seats.specs.Planned.{AreAtHome, HasPlans};
+ghost use Rattle.ng_seats.specs.Planned.{HasPlans};
 ghost use Rattle.ng_seats.specs.StillWorld.{still_world, way_at, node_of_port};
-ghost use Rattle.ng_story.specs.Story.{run_state_of, world_of};
+ghost use Rattle.ng_story.specs.Story.{world_of};
 
 use crate::Core;
 use ng_base::{Kind, LinkId, Name, NoMemory, NodeId};
@@ -101,15 +101,11 @@ fn plan_at<B: Node>(
     graph: &Graph<B>,
     id: NodeId,
 ) -> Result<Option<Arc<Plan>>, NoMemory>
-    requires { AreAtHome graph.now }
     ensures { IfOk result (λ plan. option_map arc_value plan ≡ way_at (node_in graph.now.nodes id)) }
 {
     match graph.kind(id) {
         None => Ok(None),
-        Some(_) => {
-            let plan = graph.node(id).plan(alloc)?;
-            Ok(plan)
-        }
+        Some(_) => graph.share_plan(alloc, id),
     }
 }
 
@@ -119,8 +115,7 @@ fn plans_of<B: Node>(
     graph: &Graph<B>,
     end: u32,
 ) -> Result<Vec<Option<Arc<Plan>>>, NoMemory>
-    requires end { length graph.now.nodes ≤ end }
-    requires home { AreAtHome graph.now }
+    requires { length graph.now.nodes ≤ end }
     ensures { IfOk result (λ plans. HasPlans graph.now.nodes (map (λ p. option_map arc_value p) plans.items)) }
 {
     let mut plans = Vec::new(alloc);
@@ -131,13 +126,11 @@ fn plans_of<B: Node>(
 }
 
 impl<B: Node> Core<B> {
-    /// The world as it stands, to be looked at. Nothing may be taken when it is called, so that each node is at home; items may be
-    /// pending.
+    /// The world as it stands, to be looked at. Items may be pending or taken: a node that is lent is seen as it was before.
     ///
     /// # Errors
     /// `NoMemory` where memory ran out, and for nothing else.
     pub fn still(&self, alloc: Global) -> Result<Still<'_, B>, NoMemory>
-        requires rest { (run_state_of (story self.now)).taken ≡ [] }
         ensures { IfOk result (λ still. still ≡ still_world (world_of (story self.now))) }
     {
         let state = &self.parts.state;

@@ -53,9 +53,10 @@ pub cut_next : (was now : State) (hooks : List Hook) (i : ℕ) (hook : Hook) →
 cut_next was now hooks i hook lt is differ names cut =
     let e = rest_of hooks i hook lt is in cut_first was now hook (drop (i + 1) hooks) (subst NamesDiffer e differ) (ap (map (λ h. h.name)) (sym e) ∙ names) cut
 
-pub consistent_cleared : (kind : Kind) (was now : State) (hooks after : List Hook) (plan : Option Plan) → IsConsistent kind was hooks plan → now ≡ without_all was → after ≡ [] → IsConsistent kind now after None
+pub consistent_cleared : (kind : Kind) (was now : State) (hooks after : List Hook) (plan : Option Plan) → IsConsistent kind was hooks true plan → now ≡ without_all was → after ≡ [] → IsConsistent kind now after true None
 consistent_cleared kind was now hooks after plan consistent is none = record {
   kind = ap kind_of is ∙ cut_all_kind was.kept was.hooks ∙ consistent.kind;
   hooks = ap (map (λ h. h.name)) none ∙ sym (ap (λ (s : State). s.hooks) is);
   planned = tt;
+  lent = λ away. absurd (cc away);
 }

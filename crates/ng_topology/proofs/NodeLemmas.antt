@@ -90,18 +90,20 @@ takes_may kind hook is = may_if kind hook (accepts_hook kind hook) refl is
 
 -- WHAT AN ENTRY SAYS AFTER A HOOK WAS MADE OR CUT
 
-pub consistent_added : (kind : Kind) (was now : State) (hooks after : List Hook) (plan : Option Plan) (hook : Hook) → IsConsistent kind was hooks plan → now ≡ add_hook was hook.name → after ≡ hooks ++ hook ∷ [] → IsConsistent kind now after None
+pub consistent_added : (kind : Kind) (was now : State) (hooks after : List Hook) (plan : Option Plan) (hook : Hook) → IsConsistent kind was hooks true plan → now ≡ add_hook was hook.name → after ≡ hooks ++ hook ∷ [] → IsConsistent kind now after true None
 consistent_added kind was now hooks after plan hook consistent is more = record {
   kind = ap kind_of is ∙ made_kind was.kept hook.name ∙ consistent.kind;
   hooks = ap (map (λ h. h.name)) more ∙ names_push hooks was.hooks hook consistent.hooks ∙ sym (ap (λ (s : State). s.hooks) is);
   planned = tt;
+  lent = λ away. absurd (cc away);
 }
 
-pub consistent_cut : (kind : Kind) (was now : State) (hooks after : List Hook) (plan : Option Plan) (name : List ℕ) → IsConsistent kind was hooks plan → now ≡ cut_hook was name → after ≡ without_named name hooks → IsConsistent kind now after None
+pub consistent_cut : (kind : Kind) (was now : State) (hooks after : List Hook) (plan : Option Plan) (name : List ℕ) → IsConsistent kind was hooks true plan → now ≡ cut_hook was name → after ≡ without_named name hooks → IsConsistent kind now after true None
 consistent_cut kind was now hooks after plan name consistent is less = record {
   kind = ap kind_of is ∙ cut_kind was.kept name ∙ consistent.kind;
   hooks = ap (map (λ h. h.name)) less ∙ names_without name hooks was.hooks consistent.hooks ∙ sym (ap (λ (s : State). s.hooks) is);
   planned = tt;
+  lent = λ away. absurd (cc away);
 }
 
 -- a plan that is one state's is that of another with the same way
@@ -111,11 +113,12 @@ planned_same was now (Some p) same planned = same ∙ planned
 
 -- WHAT AN ENTRY SAYS AFTER ITS BOX CAME HOME AS IT WENT, OR COUNTED
 
-pub consistent_restored : (kind : Kind) (was now : State) (hooks : List Hook) (plan : Option Plan) → IsConsistent kind was hooks plan → now ≡ record { hooks = map (λ h. h.name) hooks; kept = was.kept } → IsConsistent kind now hooks plan
-consistent_restored kind was now hooks plan consistent is = record {
+pub consistent_restored : (kind : Kind) (was now : State) (hooks : List Hook) (home : Bool) (plan : Option Plan) → IsConsistent kind was hooks home plan → now ≡ record { hooks = map (λ h. h.name) hooks; kept = was.kept } → IsConsistent kind now hooks true plan
+consistent_restored kind was now hooks home plan consistent is = record {
   kind = ap kind_of is ∙ consistent.kind;
   hooks = sym (ap (λ (s : State). s.hooks) is);
   planned = planned_same was now plan (ap way_of is ∙ ap (λ (l : List (List ℕ)). way_of (record { hooks = l; kept = was.kept })) consistent.hooks) consistent.planned;
+  lent = λ away. absurd (cc away);
 }
 
 -- to move to ng_machine
@@ -135,11 +138,12 @@ absorb_kind (VlanState s) counts = refl
 absorb_kind (PatchState s) counts = refl
 absorb_kind (EtherState s) counts = refl
 
-pub consistent_absorbed : (kind : Kind) (was now : State) (hooks : List Hook) (plan : Option Plan) (counts : List Count) → IsConsistent kind was hooks plan → now ≡ record was { kept = absorb was.kept counts } → IsConsistent kind now hooks plan
+pub consistent_absorbed : (kind : Kind) (was now : State) (hooks : List Hook) (plan : Option Plan) (counts : List Count) → IsConsistent kind was hooks true plan → now ≡ record was { kept = absorb was.kept counts } → IsConsistent kind now hooks true plan
 consistent_absorbed kind was now hooks plan counts consistent is = record {
   kind = ap kind_of is ∙ absorb_kind was.kept counts ∙ consistent.kind;
   hooks = consistent.hooks ∙ sym (ap (λ (s : State). s.hooks) is);
   planned = planned_same was now plan (ap way_of is ∙ absorb_way was.kept was.hooks counts) consistent.planned;
+  lent = λ away. absurd (cc away);
 }
 
 -- WHERE `may` ANSWERS OK

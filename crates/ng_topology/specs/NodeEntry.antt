@@ -21,11 +21,12 @@ abbrev pub entry_as : Option (List ℕ) → State → List Hook → Bool → Nod
 entry_as name state hooks home = record { node = record { name = name; kept = state.kept; hooks = hooks }; home = home }
 
 -- what the fields of an entry say: the kind and the names of the hooks are those of the state, and a plan that was made is the
--- state's
-pub record IsConsistent (its_kind : Kind) (state : State) (its_hooks : List Hook) (plan : Option Plan) : Type 0 where
+-- state's. While the box is lent there is the plan, if the state has one
+pub record IsConsistent (its_kind : Kind) (state : State) (its_hooks : List Hook) (home : Bool) (plan : Option Plan) : Type 0 where
   pub kind : kind_of state ≡ its_kind
   pub hooks : map (λ h. h.name) its_hooks ≡ state.hooks
   pub planned : IfSome plan (λ p. way_of state ≡ Some p)
+  pub lent : home ≡ false → plan ≡ way_of state
 
 -- a box of which all hooks are cut
 abbrev pub without_all : State → State

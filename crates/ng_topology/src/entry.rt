@@ -1,7 +1,7 @@
 // A node as the graph holds it.
 ghost use Rattle.std.specs.Prelude.{◌≡◌, true, false, if◌then◌else◌, map, find, is_some, IsSome, IfOk, IfSome, OnOk, OnErr, Some, None, Err};
 ghost use Rattle.std.specs.Arc.{arc_value};
-ghost use Rattle.std.specs.Option.{option_copied};
+ghost use Rattle.std.specs.Option.{option_map, option_copied};
 ghost use Rattle.ng_machine.specs.Errors.{eexist};
 ghost use Rattle.ng_machine.specs.Case.{absorb};
 ghost use Rattle.ng_machine.specs.Rules.{may_of};
@@ -21,8 +21,8 @@ use std::marker::Model;
 use std::snapshot::Snapshot;
 use std::sync::Arc;
 
-/// A node, its name and its hooks, with its box while that is at home, and its plan, where one was made since the node last
-/// changed. A one2many has none.
+/// A node, its name and its hooks, with its box while that is at home, and its plan: where one was made since the node last
+/// changed, and always while the box is lent. A one2many has none.
 ///
 /// A contract sees the node as the machine's world has it, and whether the box is at home. While it is lent the node
 /// keeps what the box kept when it went.
@@ -47,7 +47,7 @@ impl<B: Node> Model for Entry<B> {
 
     ghost view = { λ e. entry_as e.name (state_in B.state e.home e.was.value) e.hooks (is_some e.home) };
 
-    ghost invariant = { λ e. IsConsistent e.kind (state_in B.state e.home e.was.value) e.hooks (option_map arc_value e.plan) };
+    ghost invariant = { λ e. IsConsistent e.kind (state_in B.state e.home e.was.value) e.hooks (is_some e.home) (option_map arc_value e.plan) };
 }
 
 // Cuts the hooks of a box, one after another: these are all that it has.
@@ -183,12 +183,11 @@ impl<B: Node> Entry<B> {
         Ok(plan)
     }
 
-    /// The plan, shared, of a node that has one and whose box is at home. It is made where none was since the node last changed.
+    /// The plan, shared, of a node that has one. It is made where none was since the node last changed.
     ///
     /// # Errors
     /// `NoMemory` where memory ran out, or the plan is shared more often than can be counted; the node is as before in any case.
     pub fn plan(&mut self, alloc: Global) -> Result<Arc<Plan>, NoMemory>
-        requires home { self.old.home ≡ true }
         requires planned { IsSome (way_of (state_of self.old.node)) }
         ensures plan { IfOk result (λ plan. way_of (state_of self.old.node) ≡ Some (arc_value plan)) }
         ensures same { self.new ≡ self.old }
@@ -196,6 +195,21 @@ impl<B: Node> Entry<B> {
         match &self.plan {
             Some(plan) => Ok(Arc::try_clone(plan)?),
             None => self.make_plan(alloc),
+        }
+    }
+
+    /// The plan, shared, of a node that has one, and none of a one2many. Where none was made since the node last changed, one is
+    /// made, and the node doesn't keep it.
+    ///
+    /// # Errors
+    /// `NoMemory` where memory ran out, or the plan is shared more often than can be counted.
+    pub fn share_plan(&self, alloc: Global) -> Result<Option<Arc<Plan>>, NoMemory>
+        ensures { IfOk result (λ plan. option_map arc_value plan ≡ way_of (state_of self.now.node)) }
+    {
+        match (&self.plan, &self.home) {
+            (Some(plan), _) => Ok(Some(Arc::try_clone(plan)?)),
+            (None, Some(node)) => node.plan(alloc),
+            (None, None) => Ok(None),
         }
     }
 
@@ -309,15 +323,17 @@ impl<B: Node> Entry<B> {
         self.name = Some(name);
     }
 
-    /// Hands out the box, which is then lent.
-    pub fn lend(&mut self) -> B
+    /// Hands out the box, which is then lent. The node keeps its plan, if it has one, meanwhile.
+    pub fn lend(&mut self, plan: Option<Arc<Plan>>) -> B
         requires home { self.old.home ≡ true }
+        requires planned { option_map arc_value plan ≡ way_of (state_of self.old.node) }
         ensures state { B.state result ≡ state_of self.old.node }
         ensures after { self.new ≡ record self.old { home = false } }
     {
         match self.home.take() {
             Some(node) => {
                 self.was = Snapshot::of(&node);
+                self.plan = plan;
                 node
             }
             None => unreachable!(),

@@ -272,18 +272,33 @@ impl<B: Node> Graph<B> {
         }
     }
 
-    /// The plan of a node whose box is at home and which has one, as all but a one2many have; it is shared. It is made where none
-    /// was since the node last changed.
+    /// The plan of a node that is there and has one, which all but a one2many have; it is shared. It is made where none was since
+    /// the node last changed.
     ///
     /// # Errors
     /// `NoMemory` where memory ran out, or the plan is shared more often than can be counted.
     pub fn plan(&mut self, alloc: Global, id: NodeId) -> Result<Arc<Plan>, NoMemory>
-        requires home { IsAtHome self.old id }
+        requires there { IsThere self.old id }
         requires planned { (node : NodeRecord) → node_in self.old.nodes id ≡ Some node → IsSome (way_of (state_of node)) }
         ensures plan { IfOk result (λ plan. (node : NodeRecord) → node_in self.old.nodes id ≡ Some node → way_of (state_of node) ≡ Some (arc_value plan)) }
         ensures same { self.new ≡ self.old }
     {
         self.places.plan(alloc, id)
+    }
+
+    /// The plan of a node that is there, shared, and none of a one2many. Where none was made since the node last changed, one is
+    /// made, and the node doesn't keep it.
+    ///
+    /// # Errors
+    /// `NoMemory` where memory ran out, or the plan is shared more often than can be counted.
+    pub fn share_plan(&self, alloc: Global, id: NodeId) -> Result<Option<Arc<Plan>>, NoMemory>
+        requires { IsThere self.now id }
+        ensures { IfOk result (λ plan. (node : NodeRecord) → node_in self.now.nodes id ≡ Some node → option_map arc_value plan ≡ way_of (state_of node)) }
+    {
+        match self.places.entry(id) {
+            Some(entry) => entry.share_plan(alloc),
+            None => unreachable!(),
+        }
     }
 
     /// The plan of the node of that number, to be looked at, where the node is there and a plan was made since it last changed.
@@ -323,13 +338,15 @@ impl<B: Node> Graph<B> {
         Ok(())
     }
 
-    /// Hands out the box of a node, which is at home and is then lent. It takes no memory.
-    pub fn lend(&mut self, id: NodeId) -> B
-        requires { IsAtHome self.old id }
+    /// Hands out the box of a node, which is at home and is then lent. The node keeps its plan, if it has one, meanwhile. It takes
+    /// no memory.
+    pub fn lend(&mut self, id: NodeId, plan: Option<Arc<Plan>>) -> B
+        requires home { IsAtHome self.old id }
+        requires planned { (node : NodeRecord) → node_in self.old.nodes id ≡ Some node → option_map arc_value plan ≡ way_of (state_of node) }
         ensures state { (node : NodeRecord) → node_in self.old.nodes id ≡ Some node → B.state result ≡ state_of node }
         ensures after { self.new ≡ lend_box self.old id }
     {
-        self.places.lend(id)
+        self.places.lend(id, plan)
     }
 
     /// Brings a box home, in place of one that is there, of the node's kind and with its hooks. It takes no memory.

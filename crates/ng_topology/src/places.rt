@@ -142,13 +142,13 @@ impl<B: Node> Places<B> {
         }
     }
 
-    /// The plan, shared, of a node that has one and whose box is at home. It is made where none was since the node last changed.
+    /// The plan, shared, of a node that is there and has one. It is made where none was since the node last changed.
     ///
     /// # Errors
     /// `NoMemory` where memory ran out, or the plan is shared more often than can be counted.
-    #[tactic(auto, using(crate::proofs::PlaceLemmas::home_inside))]
+    #[tactic(auto, using(crate::proofs::PlaceLemmas::there_inside))]
     pub fn plan(&mut self, alloc: Global, id: NodeId) -> Result<Arc<Plan>, NoMemory>
-        requires home { slice_index_or self.old.home id.0 false ≡ true }
+        requires there { IsSome (node_in self.old.nodes id) }
         requires planned { (node : NodeRecord) → node_in self.old.nodes id ≡ Some node → IsSome (way_of (state_of node)) }
         ensures plan { IfOk result (λ plan. (node : NodeRecord) → node_in self.old.nodes id ≡ Some node → way_of (state_of node) ≡ Some (arc_value plan)) }
         ensures same { self.new ≡ self.old }
@@ -197,15 +197,16 @@ impl<B: Node> Places<B> {
         }
     }
 
-    /// Hands out a box that is at home.
+    /// Hands out a box that is at home. Its node keeps its plan, if it has one, meanwhile.
     #[tactic(auto, using(crate::proofs::PlaceLemmas::home_inside))]
-    pub fn lend(&mut self, id: NodeId) -> B
+    pub fn lend(&mut self, id: NodeId, plan: Option<Arc<Plan>>) -> B
         requires home { slice_index_or self.old.home id.0 false ≡ true }
+        requires planned { (node : NodeRecord) → node_in self.old.nodes id ≡ Some node → option_map arc_value plan ≡ way_of (state_of node) }
         ensures state { (node : NodeRecord) → node_in self.old.nodes id ≡ Some node → B.state result ≡ state_of node }
         ensures after { self.new ≡ record self.old { home = slice_set self.old.home id.0 false } }
     {
         match &mut self.entries[id.0 as usize] {
-            Some(entry) => entry.lend(),
+            Some(entry) => entry.lend(plan),
             None => unreachable!(),
         }
     }

@@ -1,6 +1,7 @@
 // A seat takes an item, with what it is worked on with.
 ghost use Rattle.std.specs.Prelude.{◌≡◌, ℕ, ◌+◌, ◌<◌, ◌^◌, true, false, is_some, IsSome, None, Some, IfOk, OnErr, IfSome, IfNone};
 ghost use Rattle.std.specs.Arc.{arc_value};
+ghost use Rattle.std.specs.Option.{option_map};
 ghost use Rattle.ng_machine.specs.declared.item.Item.{Item as TheItem};
 ghost use Rattle.ng_machine.specs.Body.{is_writer};
 ghost use Rattle.ng_machine.specs.declared.plan.Plan.{Plan as ThePlan};
@@ -14,7 +15,7 @@ ghost use Rattle.ng_queue.specs.Queue.{head};
 ghost use Rattle.ng_queue.specs.Queues.{IsLeast, list_at};
 ghost use Rattle.ng_story.specs.Story.{IsNext};
 ghost use Rattle.ng_topology.specs.Topology.{IsAtHome, linked_hook_at};
-ghost use Rattle.ng_machine.specs.Effect.{is_hook_gone, lacks_link, class_of};
+ghost use Rattle.ng_machine.specs.Effect.{lacks_link, class_of};
 ghost use Rattle.ng_machine.specs.Desk.{is_of_kind};
 ghost use Rattle.ng_world.specs.Handed.{IsForPlan, IsJobBy, item_of, job_with};
 ghost use Rattle.ng_world.specs.Lent.{WriterOut};
@@ -35,26 +36,13 @@ use std::sync::Arc;
 // The cookie of the first type's own messages; the others follow in the order of the types.
 const FIRST_COOKIE: u32 = 0x4e47_0001;
 
+// Whether the hook of a packet isn't there or has another link.
 fn lacks_link<B: Node>(graph: &Graph<B>, at: NodeId, hook: &Name, link: Option<LinkId>) -> bool
     ensures { (node : NodeRecord) → node_in graph.now.nodes at ≡ Some node → result ≡ lacks_link node hook.now link }
 {
     match link {
         Some(link) => !graph.has_link(at, hook, link),
         None => true,
-    }
-}
-
-// Whether the item is a packet by a hook that isn't there or has another link.
-fn is_hook_gone<B: Node>(graph: &Graph<B>, at: NodeId, body: &Body) -> bool
-    ensures { (node : NodeRecord) → node_in graph.now.nodes at ≡ Some node → result ≡ is_hook_gone (Some node) body.now }
-{
-    match body {
-        Body::Frame {
-            door: Door::Hook(hook),
-            link,
-            packet: _,
-        } => lacks_link(graph, at, hook, *link),
-        _ => false,
     }
 }
 
@@ -84,10 +72,12 @@ fn tool_for<B: Node>(graph: &Graph<B>, item: &Item) -> Tool
     ensures { (node : NodeRecord) → node_in graph.now.nodes item.now.to ≡ Some node
         → item.now.writer ≡ is_writer (kind_at node) item.now.body → IsJobBy result item.now node (job_at item.now (Some node)) }
 {
-    if is_hook_gone(graph, item.to, &item.body) {
-        return Tool::Nothing;
-    }
     match &item.body {
+        Body::Frame {
+            door: Door::Hook(hook),
+            link,
+            packet: _,
+        } if lacks_link(graph, item.to, hook, *link) => Tool::Nothing,
         Body::Frame { .. } if item.writer => Tool::Node,
         Body::Frame { .. } => Tool::Plan,
         Body::Msg(msg) if item.writer && is_own_message(graph, item.to, msg) => Tool::Node,
@@ -98,14 +88,26 @@ fn tool_for<B: Node>(graph: &Graph<B>, item: &Item) -> Tool
 }
 
 impl<B: Node> State<B> {
-    // Lends the node, which has its writer.
-    fn lend(&mut self, at: NodeId) -> B
-        requires { IsAtHome self.old.graph at }
+    // The plan of the node of the least item that may be taken, if that has one.
+    fn share_plan(&self, alloc: Global, at: usize) -> Result<Option<Arc<Plan>>, NoMemory>
+        requires standing { IsStanding self.now }
+        requires least { IsLeast self.now.pending.queues.lists at }
+        ensures { IfOk result (λ plan. (item : TheItem) (node : NodeRecord) → head (list_at self.now.pending.queues.lists at) ≡ Some item
+            → node_in self.now.graph.nodes item.to ≡ Some node → option_map arc_value plan ≡ way_of (state_of node)) }
+    {
+        let to = self.pending.head(at).to;
+        self.graph.share_plan(alloc, to)
+    }
+
+    // Lends the node, which has its writer. The node keeps its plan, if it has one, meanwhile.
+    fn lend(&mut self, at: NodeId, plan: Option<Arc<Plan>>) -> B
+        requires home { IsAtHome self.old.graph at }
+        requires planned { (node : NodeRecord) → node_in self.old.graph.nodes at ≡ Some node → option_map arc_value plan ≡ way_of (state_of node) }
         ensures stands { (a : RunState) (node : NodeRecord) → Stands self.old a → node_at a.world at ≡ Some node
             → WriterOut node a.world.pending a.taken at.0 → Stands self.new a }
         ensures node { (node : NodeRecord) → node_in self.old.graph.nodes at ≡ Some node → B.state result ≡ state_of node }
     {
-        self.graph.lend(at)
+        self.graph.lend(at, plan)
     }
 
     // Takes the item that the queue with the least has.
@@ -198,8 +200,9 @@ impl<B: Node> State<B> {
                 Ok(Some(Work::Read { item, plan }))
             }
             Tool::Node => {
+                let plan = self.share_plan(alloc, at)?;
                 let item = self.take_at(at, seat);
-                let node = self.lend(item.to);
+                let node = self.lend(item.to, plan);
                 Ok(Some(Work::Write { item, node }))
             }
             Tool::Nothing => {

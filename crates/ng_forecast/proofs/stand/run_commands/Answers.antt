@@ -8,7 +8,6 @@ use Rattle.ng_machine.specs.LowRun.{IsModest}
 use Rattle.ng_machine.specs.Run.{RunState}
 use Rattle.ng_machine.specs.State.{kind_of}
 use Rattle.ng_machine.specs.World.{World}
-use Rattle.ng_machine.proofs.Held.{whole_takes_nothing}
 use Rattle.ng_run.specs.Plainly.{WentPlainly}
 use Rattle.ng_run.specs.Beginning.{begun_core}
 use Rattle.ng_run.specs.CoreStory.{CoreStory, setting_of as core_setting, story}
@@ -77,11 +76,3 @@ returns-clause-ports g c =
     ∙ ports_stay (with_more S c.in_ok-inputs.inputs.items) c.plain.new.core.journal
     ∙ ap (λ (l : List (List ℕ)). length l) (c.in_ok-ports.ensures ∙ ap (λ (p : List PortWord). map (λ port. port.name) p) c.as_slice.ensures)
     ∙ length-map c.args.words.now.ports (λ port. port.name)
-
-pub returns-clause-rest : goal.returns-clause-rest
-returns-clause-rest g c =
-    let late = (goal.at.returns-clause-rest g c).After-journal-journal in
-    let S = core_setting (made_by g late c.in_ok-ports.ports.items) in
-    let W = c.plainly_is_whole.ensures S c.in_ok-inputs.inputs.items (story c.plain.new.core) c.journal-journal.ensures.sound (went g late) in
-    sym (ap (λ (a : RunState). a.taken) W.2)
-    ∙ whole_takes_nothing (with_more S c.in_ok-inputs.inputs.items) c.plain.new.core.journal W.0 W.1

@@ -1,17 +1,10 @@
-use Rattle.std.proofs.Common.{◌∙◌, ap, arith}
+use Rattle.std.proofs.Common.{arith}
 use Rattle.std.proofs.lemmas.Grind.{common_steps}
-use Rattle.ng_story.specs.Story.{run_state_of}
-use Rattle.ng_seats.specs.CoreStory.{CoreStory, story}
+use Rattle.ng_seats.specs.CoreStory.{story}
 use Rattle.ng_seats.specs.Kept.{story_in}
 use Rattle.ng_seats.proofs.KeptPorts.{kept_count}
-use Rattle.ng_seats.proofs.Reached.{kept_there, story_there}
-use Rattle.ng_seats.proofs.Stopped.{all_at_home}
+use Rattle.ng_seats.proofs.Reached.{kept_there}
 use Rattle.ng_seats.proofs.machine.Core.still.Goals as goal
-
-pub plans_of-requires-clause-home : goal.plans_of-requires-clause-home
-plans_of-requires-clause-home g c κs within =
-    all_at_home c.deref.result.now.state (run_state_of (story (story_in c.deref.result.now))) (kept_there c.deref.ensures c.self.invariant).stands
-    (ap (λ (x : CoreStory). (run_state_of (story x)).taken) (story_there c.deref.ensures c.self.view_is) ∙ c.requires.rest)
 
 pub overflow_cast-result : goal.overflow_cast-result
 overflow_cast-result g c =
