@@ -1,3 +1,4 @@
 pub mod Ends
 pub mod Faults
 pub mod Runs
+pub mod Sendable

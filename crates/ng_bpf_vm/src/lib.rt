@@ -7,8 +7,6 @@ mod laws;
 mod machine;
 mod operation;
 mod program;
-#[cfg(test)]
-mod tests;
 mod validity;
 
 pub use instruction::Insn;

@@ -7,8 +7,8 @@ use Rattle.std.proofs.lemmas.Bool.Decides.{nat_tests}
 use Rattle.std.proofs.lemmas.List.Edits.{length-insert}
 use Rattle.byteorder.specs.Endian.{big_number}
 use Rattle.ng_base.proofs.NameLemmas.{same_name}
-use Rattle.ng_lookup.proofs.AddressLemmas.{lacks_address, any_found}
-use Rattle.ng_machine.specs.Macset.{has_address, most_addresses, put_address}
+use Rattle.ng_plan.proofs.lookup.AddressLemmas.{lacks_address, any_found}
+use Rattle.ng_machine.specs.kinds.Macset.{has_address, most_addresses, put_address}
 use Rattle.ng_sorted.specs.Order.{IsGap}
 use Rattle.ng_sorted.proofs.InOrder.{find_gap, next_gap, ordered_filter, ordered_insert}
 use Rattle.ng_filter_types.specs.Addresses.{AreAddresses, IsFree}

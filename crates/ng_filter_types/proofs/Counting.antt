@@ -2,8 +2,8 @@
 use Rattle.std.proofs.Common.{◌≡◌, ℕ, List, [], ◌∷◌, refl}
 use Rattle.ng_machine.specs.Counters.{Count, after_counts}
 use Rattle.ng_machine.specs.declared.plan.EtfWay.{EtfWay}
-use Rattle.ng_machine.specs.Etf.{Etf, count_etf}
-use Rattle.ng_machine.specs.Macset.{Macset, count_macset}
+use Rattle.ng_machine.specs.kinds.Etf.{Etf, count_etf}
+use Rattle.ng_machine.specs.kinds.Macset.{Macset, count_macset}
 use Rattle.ng_filter_types.specs.Counts.{count_number}
 
 abbrev pub etf_with : List EtfWay → List ℕ → Etf

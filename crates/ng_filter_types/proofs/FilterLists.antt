@@ -5,7 +5,7 @@ use Rattle.std.proofs.lemmas.Bool.{cases_Bool}
 use Rattle.std.proofs.lemmas.Bool.Decides.{nat_tests}
 use Rattle.std.proofs.lemmas.List.Edits.{length-insert}
 use Rattle.ng_machine.specs.declared.plan.EtfWay.{EtfWay}
-use Rattle.ng_machine.specs.Etf.{most_filters, put_etf}
+use Rattle.ng_machine.specs.kinds.Etf.{most_filters, put_etf}
 use Rattle.ng_sorted.specs.Order.{IsGap}
 use Rattle.ng_sorted.proofs.InOrder.{next_gap, ordered_filter, ordered_insert}
 use Rattle.ng_filter_types.specs.Filters.{AreFilters, IsFree, number_of}

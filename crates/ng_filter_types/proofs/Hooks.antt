@@ -5,7 +5,7 @@ use Rattle.std.specs.Str.{bytes_eq}
 use Rattle.ng_base.specs.Names.{has_name, without_name}
 use Rattle.ng_base.specs.declared.kind.Kind.TheVariants.{Etf as OfEtf}
 use Rattle.ng_machine.specs.declared.plan.EtfWay.{EtfWay}
-use Rattle.ng_machine.specs.Etf.{put_etf}
+use Rattle.ng_machine.specs.kinds.Etf.{put_etf}
 use Rattle.ng_machine.specs.Rules.{accepts_hook}
 use Rattle.ng_machine.specs.Sound.{IsSound}
 use Rattle.ng_machine.specs.State.{KindState, EtfState, State}

@@ -7,8 +7,8 @@ use Rattle.ng_machine.specs.declared.plan.EtfWay.{EtfWay}
 use Rattle.ng_machine.specs.Arguments.{read_name, text_at}
 use Rattle.ng_machine.specs.Errors.{einval, enoent, eexist, enfile}
 use Rattle.ng_machine.specs.Names.{downstream, nomatch}
-use Rattle.ng_machine.specs.Etf.{Etf, etf_filter_of, filter_refusals, most_filters}
-use Rattle.ng_machine.specs.Macset.{Macset, address_refusals, delete_address_refusals, has_address, is_group, most_addresses}
+use Rattle.ng_machine.specs.kinds.Etf.{Etf, etf_filter_of, filter_refusals, most_filters}
+use Rattle.ng_machine.specs.kinds.Macset.{Macset, address_refusals, delete_address_refusals, has_address, is_group, most_addresses}
 use Rattle.ng_machine.specs.Words.{first_refusal}
 use Rattle.ng_filter_types.specs.Filters.{is_invalid}
 

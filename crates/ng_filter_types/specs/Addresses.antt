@@ -1,7 +1,7 @@
 -- The addresses of a macset: in order of the numbers that they write, and at most 4,096.
 use Rattle.std.specs.Prelude.{◌≡◌, ◌≤◌, ℕ, false, List, length}
 use Rattle.byteorder.specs.Endian.{big_number}
-use Rattle.ng_machine.specs.Macset.{has_address, most_addresses}
+use Rattle.ng_machine.specs.kinds.Macset.{has_address, most_addresses}
 use Rattle.ng_sorted.specs.Order.{IsInOrder, IsGap}
 
 pub record AreAddresses (addresses : List (List ℕ)) : Type 0 where

@@ -3,7 +3,7 @@ use Rattle.std.specs.Prelude.{◌≡◌, ◌≤◌, ℕ, Bool, not, ◌||◌, na
 use Rattle.ng_base.specs.Name.{is_name}
 use Rattle.ng_base.specs.Names.{has_name}
 use Rattle.ng_machine.specs.declared.plan.EtfWay.{EtfWay}
-use Rattle.ng_machine.specs.Etf.{etf_filter_of, most_filters}
+use Rattle.ng_machine.specs.kinds.Etf.{etf_filter_of, most_filters}
 use Rattle.ng_machine.specs.Names.{downstream, nomatch}
 use Rattle.ng_sorted.specs.Order.{IsInOrder, IsGap}
 

@@ -1,3 +1,5 @@
+pub mod bpf
+pub mod patch
 pub mod Addresses
 pub mod Counts
 pub mod Filters

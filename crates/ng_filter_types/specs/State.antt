@@ -1,7 +1,7 @@
 -- The states of nodes of the two types, as the nodes keep them.
 use Rattle.std.specs.Prelude.{ℕ, List}
-use Rattle.ng_machine.specs.Etf.{Etf}
-use Rattle.ng_machine.specs.Macset.{Macset}
+use Rattle.ng_machine.specs.kinds.Etf.{Etf}
+use Rattle.ng_machine.specs.kinds.Macset.{Macset}
 use Rattle.ng_machine.specs.State.{State, EtfState, MacsetState}
 
 -- its hooks, in the order in which they were made, and what an etf keeps

@@ -3,13 +3,13 @@ ghost use Rattle.std.specs.Prelude.{◌≡◌, ◌<◌, ◌++◌, [], true, fals
 ghost use Rattle.std.specs.List.{filter};
 ghost use Rattle.std.specs.Str.{bytes_eq};
 ghost use Rattle.byteorder.specs.Endian.{big_number};
-ghost use Rattle.ng_machine.specs.Macset.{addresses_bytes, has_address, most_addresses, put_address};
+ghost use Rattle.ng_machine.specs.kinds.Macset.{addresses_bytes, has_address, most_addresses, put_address};
 ghost use Rattle.ng_sorted.specs.Order.{IsInOrder};
 ghost use Rattle.ng_filter_types.specs.Addresses.{IsFree};
 
 use ng_base::{Bytes, NoMemory, Sequence};
-use ng_lookup::{address_number, same_address};
 use ng_message::put_u32;
+use ng_plan::lookup::{address_number, same_address};
 use std::alloc::Global;
 use std::marker::Model;
 

@@ -3,7 +3,7 @@ ghost use Rattle.std.specs.Prelude.{◌≡◌, ◌≢◌, false, true, length, n
 ghost use Rattle.ng_base.specs.Name.{is_name};
 ghost use Rattle.ng_base.specs.Names.{has_name};
 ghost use Rattle.ng_machine.specs.Counters.{after_counts};
-ghost use Rattle.ng_machine.specs.Etf.{count_etf, etf_filter_of, etf_message, filter_refusals, most_filters, set_filter};
+ghost use Rattle.ng_machine.specs.kinds.Etf.{count_etf, etf_filter_of, etf_message, filter_refusals, most_filters, set_filter};
 ghost use Rattle.ng_machine.specs.Words.{first_refusal};
 ghost use Rattle.ng_machine.specs.State.{blank_of};
 ghost use Rattle.ng_filter_types.specs.Filters.{is_invalid};
@@ -15,7 +15,7 @@ use crate::matchhook::filter_in;
 use ng_base::{Errno, Kind, Name, NoMemory};
 use ng_machine::{Body, Counts, EtfWay, Farewell, Outcome};
 use ng_message::{HAS_ANSWER, Msg, READ_ONLY};
-use ng_node::{HookList, Node};
+use ng_plan::node::{HookList, Node};
 use ng_plan::{Plan, Way, answers, downstream, eval, fails, nomatch, nothing};
 use std::alloc::Global;
 use std::marker::Model;

@@ -2,7 +2,7 @@
 ghost use Rattle.std.specs.Prelude.{◌≡◌, ◌<◌, ◌++◌, [], true, false, not, length, nat_le, is_some, flat_map, IfOk, OnOk, OnErr, MatchOption};
 ghost use Rattle.std.specs.List.{filter};
 ghost use Rattle.std.specs.Str.{bytes_eq};
-ghost use Rattle.ng_machine.specs.Etf.{etf_filter_bytes, etf_filter_of, etf_filters_bytes, most_filters, put_etf};
+ghost use Rattle.ng_machine.specs.kinds.Etf.{etf_filter_bytes, etf_filter_of, etf_filters_bytes, most_filters, put_etf};
 ghost use Rattle.ng_sorted.specs.Order.{IsInOrder};
 ghost use Rattle.ng_filter_types.specs.Filters.{IsFree, number_of};
 

@@ -2,7 +2,7 @@
 ghost use Rattle.std.specs.Prelude.{◌≡◌, ◌≤◌, false, true, length, MatchOption};
 ghost use Rattle.ng_base.specs.Name.{is_name};
 ghost use Rattle.ng_machine.specs.Arguments.{read_name};
-ghost use Rattle.ng_machine.specs.Etf.{etf_filter_in};
+ghost use Rattle.ng_machine.specs.kinds.Etf.{etf_filter_in};
 
 use ng_base::Name;
 use ng_machine::EtfWay;

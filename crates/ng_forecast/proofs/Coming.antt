@@ -9,9 +9,9 @@ use Rattle.ng_machine.specs.declared.input.Input.{Input}
 use Rattle.ng_machine.specs.declared.input.Input.TheVariants.{Command, Late, Packet, Tick}
 use Rattle.ng_machine.specs.Feed.{later}
 use Rattle.ng_machine.specs.Words.{Every}
-use Rattle.ng_feed.specs.declared.arrival.Arrival.{Arrival}
-use Rattle.ng_feed.specs.Inputs.{arrivals_from, inputs_of, packet_inputs, seconds, tick_if, ticks}
-use Rattle.ng_feed.specs.Merge.{Packets, earlier, merged, merged_in, next_from, packet_count, taken, without_next}
+use Rattle.ngctl_script.specs.declared.feed.arrival.Arrival.{Arrival}
+use Rattle.ngctl_script.specs.feed.Inputs.{arrivals_from, inputs_of, packet_inputs, seconds, tick_if, ticks}
+use Rattle.ngctl_script.specs.feed.Merge.{Packets, earlier, merged, merged_in, next_from, packet_count, taken, without_next}
 use Rattle.ng_forecast.specs.Arrivals.{packets_among}
 
 -- ticks are no packets

@@ -8,14 +8,14 @@ use Rattle.ng_pcap.specs.declared.fault.CaptureFault.{CaptureFault}
 use Rattle.ng_pcap.specs.Reading.{capture_of}
 use Rattle.ngctl_script.specs.declared.fault.ScriptFault.{ScriptFault}
 use Rattle.ngctl_script.specs.Script.{script_fault}
-use Rattle.ng_words.specs.declared.port.PortWord.{PortWord}
-use Rattle.ng_ends.specs.Outside.{Outside}
-use Rattle.ng_ends.specs.Steps.{Step, Reads, Checks, unless_missing, first_fault, Refuses}
-use Rattle.ng_run.specs.declared.ended.Fault.{Fault}
-use Rattle.ng_run.specs.declared.ended.Fault.TheVariants as run
-use Rattle.ng_run.specs.declared.ended.Which.TheVariants as file
-use Rattle.ng_run.specs.Ends.{names as run_names}
-use Rattle.ng_run.specs.Steps.{over, fault_in, most_bytes, most_packets, most_script, packets_in, port_steps, script_steps, capture_steps}
+use Rattle.ng_args.specs.declared.port.PortWord.{PortWord}
+use Rattle.ng_call.specs.ending.Outside.{Outside}
+use Rattle.ng_call.specs.ending.Steps.{Step, Reads, Checks, unless_missing, first_fault, Refuses}
+use Rattle.ng_call.specs.declared.ended.Fault.{Fault}
+use Rattle.ng_call.specs.declared.ended.Fault.TheVariants as run
+use Rattle.ng_call.specs.declared.ended.Which.TheVariants as file
+use Rattle.ng_call.specs.Ends.{names as run_names}
+use Rattle.ng_call.specs.Steps.{over, fault_in, most_bytes, most_packets, most_script, packets_in, port_steps, script_steps, capture_steps}
 use Rattle.ng_forecast.specs.declared.ended.ForecastFault.{ForecastFault}
 use Rattle.ng_forecast.specs.Parts.{fault_of}
 use Rattle.ng_forecast.specs.Steps.{names}

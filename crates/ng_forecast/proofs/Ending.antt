@@ -13,17 +13,17 @@ use Rattle.ng_outside.specs.Contents.{Contents}
 use Rattle.ng_outside.specs.Count.{Rose}
 use Rattle.ng_outside.specs.Write.{AppendsPrefix}
 use Rattle.ng_pcap.specs.declared.capture.Capture.{Capture as ReadCapture}
-use Rattle.ng_feed.specs.Inputs.{Timed}
-use Rattle.ng_words.specs.declared.words.ForecastWords.{ForecastWords}
-use Rattle.ng_ends.specs.Outside.{Outside, Same}
-use Rattle.ng_ends.specs.Steps.{Step, Checks, first_fault, Refuses}
-use Rattle.ng_ends.proofs.Lists.{first_behind, refuses_behind, refuses_in_front, refuses_within}
-use Rattle.ng_run.specs.Parts.{counting, of_files, outside, storing}
+use Rattle.ngctl_script.specs.feed.Inputs.{Timed}
+use Rattle.ng_args.specs.declared.words.ForecastWords.{ForecastWords}
+use Rattle.ng_call.specs.ending.Outside.{Outside, Same}
+use Rattle.ng_call.specs.ending.Steps.{Step, Checks, first_fault, Refuses}
+use Rattle.ng_call.proofs.ending.Lists.{first_behind, refuses_behind, refuses_in_front, refuses_within}
+use Rattle.ng_call.specs.Parts.{counting, of_files, outside, storing}
 use Rattle.ng_forecast.specs.declared.ended.ForecastFault.{ForecastFault}
 use Rattle.ng_forecast.specs.declared.ended.ForecastFault.TheVariants.{Usage, WriteFault, Restless, NoMemory}
 use Rattle.ng_forecast.specs.Packets.{packet_fault}
 use Rattle.ng_forecast.specs.Steps.{IsRun, flights_in, flights_of, forecast_steps, late_steps, read_steps, restless, setting_in, setting_of}
-use Rattle.ng_run.specs.Writes.{is_stopped}
+use Rattle.ng_call.specs.Writes.{is_stopped}
 use Rattle.ngctl_script.specs.Script.{commands_of}
 use Rattle.ng_forecast.specs.Text.{bag_text}
 use Rattle.ng_forecast.specs.Ends.{EndsBy, EndsWith, fault_status, world_in}

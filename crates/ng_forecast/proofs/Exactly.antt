@@ -6,16 +6,16 @@ use Rattle.ng_base.specs.declared.event.Event.{Event}
 use Rattle.ng_base.specs.declared.kind.Kind.{Kind}
 use Rattle.ng_machine.specs.Spread.{Spread}
 use Rattle.ng_machine.proofs.PlainSteps.{plain_is_one}
-use Rattle.ng_words.specs.declared.words.ForecastWords.{ForecastWords}
-use Rattle.ng_words.specs.declared.words.Source.TheVariants.{FromFiles}
-use Rattle.ng_ends.specs.Causes.{FailsReading, FailsWriting, NoneReads, NoneWrites}
-use Rattle.ng_ends.specs.Ends.{Call, Ends, IsRefused, IsStopped}
-use Rattle.ng_ends.specs.Outside.{Outside, FileRose, PlaceRose, ToSink, Same}
-use Rattle.ng_ends.specs.Steps.{Step, Reads, Checks, Refuses}
-use Rattle.ng_ends.specs.Writes.{StopsAt, StopsFor, WritesAll}
-use Rattle.ng_ends.proofs.Rows.{fault_comes, ends_well, reads_only, writes_only, refused_alone, stopped_alone}
-use Rattle.ng_run.specs.Found.{Found}
-use Rattle.ng_run.proofs.Exactly.{found_is}
+use Rattle.ng_args.specs.declared.words.ForecastWords.{ForecastWords}
+use Rattle.ng_args.specs.declared.words.Source.TheVariants.{FromFiles}
+use Rattle.ng_call.specs.ending.Causes.{FailsReading, FailsWriting, NoneReads, NoneWrites}
+use Rattle.ng_call.specs.ending.Ends.{Call, Ends, IsRefused, IsStopped}
+use Rattle.ng_call.specs.ending.Outside.{Outside, FileRose, PlaceRose, ToSink, Same}
+use Rattle.ng_call.specs.ending.Steps.{Step, Reads, Checks, Refuses}
+use Rattle.ng_call.specs.ending.Writes.{StopsAt, StopsFor, WritesAll}
+use Rattle.ng_call.proofs.ending.Rows.{fault_comes, ends_well, reads_only, writes_only, refused_alone, stopped_alone}
+use Rattle.ng_call.specs.Found.{Found}
+use Rattle.ng_call.proofs.Exactly.{found_is}
 use Rattle.ng_forecast.specs.declared.ended.ForecastFault.{ForecastFault}
 use Rattle.ng_forecast.specs.declared.ended.ForecastFault.TheVariants.{Usage, Script, Capture, TooBig, ReadFault, WriteFault, Moving, Restless, Wide, Undefined, Big, NoMemory}
 use Rattle.ng_forecast.specs.declared.ended.Source.{Source}

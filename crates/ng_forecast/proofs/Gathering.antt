@@ -5,8 +5,8 @@ use Rattle.std.specs.declared.option.Option.{Option}
 use Rattle.std.specs.declared.option.Option.TheVariants.{None, Some}
 use Rattle.ng_machine.specs.World.{NodeRecord}
 use Rattle.ng_machine.specs.Spread.{Spread, Flight, beside, spread_all, spread_in}
-use Rattle.ng_spread.specs.Met.{met_in}
-use Rattle.ng_spread.specs.Weight.{weight}
+use Rattle.ng_forecast.specs.spread.Met.{met_in}
+use Rattle.ng_forecast.specs.spread.Weight.{weight}
 use Rattle.ng_forecast.specs.declared.ended.ForecastFault.{ForecastFault}
 use Rattle.ng_forecast.specs.declared.ended.ForecastFault.TheVariants.{Wide, Undefined, Big}
 use Rattle.ng_forecast.specs.Packets.{Fails, Passes, Tally, fault_at, fault_from, fault_if, most_met, most_weight, no_tally, packet_fault, tally}

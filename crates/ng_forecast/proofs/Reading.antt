@@ -9,20 +9,20 @@ use Rattle.ng_outside.specs.Contents.{Contents}
 use Rattle.ng_pcap.specs.declared.capture.Capture.{Capture as ReadCapture}
 use Rattle.ngctl_script.specs.declared.when.When.{When}
 use Rattle.ngctl_script.specs.Script.{commands_of}
-use Rattle.ng_feed.specs.Inputs.{Timed}
-use Rattle.ng_words.specs.declared.port.PortWord.{PortWord}
-use Rattle.ng_words.specs.declared.words.ForecastWords.{ForecastWords}
-use Rattle.ng_ends.specs.Outside.{Outside}
-use Rattle.ng_ends.specs.Steps.{Step, Checks, first_fault, Refuses}
-use Rattle.ng_ends.proofs.Lists.{first_behind, refuses_behind, refuses_in_front, refuses_within}
-use Rattle.ng_ends.proofs.Counts.{rose_since}
-use Rattle.ng_run.specs.declared.ended.Fault.{Fault}
-use Rattle.ng_run.specs.Ends.{names as run_names}
-use Rattle.ng_run.specs.Found.{Found, IsRead, AreRead, capture_in, captures_in}
-use Rattle.ng_run.specs.Parts.{AreAllWritable, of_files, Stops as RunStops, ScriptPasses, PortsPass, PortsStop}
-use Rattle.ng_run.specs.Steps.{script_steps, capture_steps}
-use Rattle.ng_run.proofs.Files.{told_or_empty, told_read}
-use Rattle.ng_run.proofs.Ports.{fill, fill_read}
+use Rattle.ngctl_script.specs.feed.Inputs.{Timed}
+use Rattle.ng_args.specs.declared.port.PortWord.{PortWord}
+use Rattle.ng_args.specs.declared.words.ForecastWords.{ForecastWords}
+use Rattle.ng_call.specs.ending.Outside.{Outside}
+use Rattle.ng_call.specs.ending.Steps.{Step, Checks, first_fault, Refuses}
+use Rattle.ng_call.proofs.ending.Lists.{first_behind, refuses_behind, refuses_in_front, refuses_within}
+use Rattle.ng_call.proofs.ending.Counts.{rose_since}
+use Rattle.ng_call.specs.declared.ended.Fault.{Fault}
+use Rattle.ng_call.specs.Ends.{names as run_names}
+use Rattle.ng_call.specs.Found.{Found, IsRead, AreRead, capture_in, captures_in}
+use Rattle.ng_call.specs.Parts.{AreAllWritable, of_files, Stops as RunStops, ScriptPasses, PortsPass, PortsStop}
+use Rattle.ng_call.specs.Steps.{script_steps, capture_steps}
+use Rattle.ng_call.proofs.Files.{told_or_empty, told_read}
+use Rattle.ng_call.proofs.Ports.{fill, fill_read}
 use Rattle.ng_forecast.specs.declared.ended.ForecastFault.{ForecastFault}
 use Rattle.ng_forecast.specs.declared.ended.ForecastFault.TheVariants.{Moving, NoMemory}
 use Rattle.ng_forecast.specs.Moving.{moving}

@@ -7,21 +7,21 @@ use Rattle.ng_base.specs.declared.event.Event.{Event}
 use Rattle.ng_machine.specs.World.{World, NodeRecord}
 use Rattle.ng_machine.specs.Spread.{Flight, Spread, spread_in}
 use Rattle.ng_pcap.specs.declared.fault.CaptureFault.{CaptureFault}
-use Rattle.ng_spread.specs.Met.{met_in}
-use Rattle.ng_spread.specs.Weight.{weight}
+use Rattle.ng_forecast.specs.spread.Met.{met_in}
+use Rattle.ng_forecast.specs.spread.Weight.{weight}
 use Rattle.ngctl_script.specs.declared.fault.ScriptFault.{ScriptFault}
 use Rattle.ngctl_script.specs.Script.{commands_of}
-use Rattle.ng_words.specs.declared.port.PortWord.{PortWord}
-use Rattle.ng_words.specs.declared.words.ForecastWords.{ForecastWords}
-use Rattle.ng_ends.specs.Causes.{FailsReading, NoneChecked, NoneReads}
-use Rattle.ng_ends.specs.Outside.{Outside, FileRose}
-use Rattle.ng_ends.specs.Steps.{Step, Reads, Checks}
-use Rattle.ng_ends.proofs.Sorts.{both_checked, both_reads, if_checked, map_checked}
-use Rattle.ng_run.specs.Found.{Found}
-use Rattle.ng_run.specs.Line.{in_name}
-use Rattle.ng_run.specs.Steps.{script_steps, capture_steps, packets_in}
-use Rattle.ng_run.specs.Writes.{is_stopped}
-use Rattle.ng_run.proofs.GivenSorts.{AreElse as AreGivenElse, captures_checked, captures_read, script_checked}
+use Rattle.ng_args.specs.declared.port.PortWord.{PortWord}
+use Rattle.ng_args.specs.declared.words.ForecastWords.{ForecastWords}
+use Rattle.ng_call.specs.ending.Causes.{FailsReading, NoneChecked, NoneReads}
+use Rattle.ng_call.specs.ending.Outside.{Outside, FileRose}
+use Rattle.ng_call.specs.ending.Steps.{Step, Reads, Checks}
+use Rattle.ng_call.proofs.ending.Sorts.{both_checked, both_reads, if_checked, map_checked}
+use Rattle.ng_call.specs.Found.{Found}
+use Rattle.ng_call.specs.Line.{in_name}
+use Rattle.ng_call.specs.Steps.{script_steps, capture_steps, packets_in}
+use Rattle.ng_call.specs.Writes.{is_stopped}
+use Rattle.ng_call.proofs.GivenSorts.{AreElse as AreGivenElse, captures_checked, captures_read, script_checked}
 use Rattle.ng_forecast.specs.declared.ended.ForecastFault.{ForecastFault}
 use Rattle.ng_forecast.specs.declared.ended.ForecastFault.TheVariants.{Script, Capture, TooBig, ReadFault, Moving, Restless, Wide, Undefined, Big}
 use Rattle.ng_forecast.specs.declared.ended.Source.{Source}

@@ -10,13 +10,13 @@ use Rattle.ng_machine.specs.KnownRun.{FitsInput}
 use Rattle.ng_machine.specs.LowRun.{IsModest, most_commands}
 use Rattle.ng_machine.specs.Refusal.{is_command}
 use Rattle.ng_machine.specs.Words.{Every, times}
-use Rattle.ng_feed.specs.Inputs.{Timed, commands_that, is_first, inputs_of, is_after, late_commands, packet_inputs}
-use Rattle.ng_printable.specs.Scripts.{AreFitFor, InputsAreFit}
-use Rattle.ng_words.specs.declared.words.ForecastWords.{ForecastWords}
-use Rattle.ng_words.specs.Forecast.{forecast_parts, forecast_words_of, if_forecast_words}
-use Rattle.ng_words.specs.Lists as words
-use Rattle.ng_words.specs.Lists.{are_undashed}
-use Rattle.ng_words.specs.Together.{are_ports, most_ports}
+use Rattle.ngctl_script.specs.feed.Inputs.{Timed, commands_that, is_first, inputs_of, is_after, late_commands, packet_inputs}
+use Rattle.ng_laws.specs.printable.Scripts.{AreFitFor, InputsAreFit}
+use Rattle.ng_args.specs.declared.words.ForecastWords.{ForecastWords}
+use Rattle.ng_args.specs.Forecast.{forecast_parts, forecast_words_of, if_forecast_words}
+use Rattle.ng_base.specs.Names.{are_different}
+use Rattle.ng_args.specs.Lists.{are_undashed}
+use Rattle.ng_args.specs.Together.{are_ports, most_ports}
 use Rattle.ngctl_script.specs.Held.{AreCommands}
 use Rattle.ng_forecast.specs.Steps.{setting_of}
 
@@ -37,10 +37,10 @@ and_right true b e = e
 and_right false b e = absurd (cc e)
 
 pub few_ports : (w : ForecastWords) → are_ports w.own_name w.ports ≡ true → length w.ports ≤ 64
-few_ports w e = leb-true (length w.ports) most_ports (and_left (nat_le (length w.ports) most_ports) (words.are_different (w.own_name ∷ map (λ port. port.name) w.ports)) e)
+few_ports w e = leb-true (length w.ports) most_ports (and_left (nat_le (length w.ports) most_ports) (are_different (w.own_name ∷ map (λ port. port.name) w.ports)) e)
 
-pub names_differ : (w : ForecastWords) → are_ports w.own_name w.ports ≡ true → words.are_different (w.own_name ∷ map (λ port. port.name) w.ports) ≡ true
-names_differ w e = and_right (nat_le (length w.ports) most_ports) (words.are_different (w.own_name ∷ map (λ port. port.name) w.ports)) e
+pub names_differ : (w : ForecastWords) → are_ports w.own_name w.ports ≡ true → are_different (w.own_name ∷ map (λ port. port.name) w.ports) ≡ true
+names_differ w e = and_right (nat_le (length w.ports) most_ports) (are_different (w.own_name ∷ map (λ port. port.name) w.ports)) e
 
 abbrev behind : Timed → List Input
 behind script = commands_that (is_after 0 0) script ++ (packet_inputs script [] ++ late_commands script)

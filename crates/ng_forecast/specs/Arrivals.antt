@@ -2,7 +2,7 @@
 use Rattle.std.specs.Prelude.{List, [], ◌∷◌}
 use Rattle.ng_machine.specs.declared.input.Input.{Input}
 use Rattle.ng_machine.specs.declared.input.Input.TheVariants.{Command, Late, Packet, Tick}
-use Rattle.ng_feed.specs.declared.arrival.Arrival.{Arrival}
+use Rattle.ngctl_script.specs.declared.feed.arrival.Arrival.{Arrival}
 
 abbrev pub packets_among : List Input → List Arrival
 packets_among [] = []

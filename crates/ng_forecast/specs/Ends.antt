@@ -6,12 +6,12 @@ use Rattle.ng_machine.specs.Laws.{world_after}
 use Rattle.ng_machine.specs.World.{World}
 use Rattle.ng_machine.specs.Spread.{Spread, spread_of_all}
 use Rattle.ng_outside.specs.Contents.{Contents}
-use Rattle.ng_words.specs.declared.words.ForecastWords.{ForecastWords}
-use Rattle.ng_ends.specs.Outside.{Outside, Same, ToSink}
-use Rattle.ng_ends.specs.Steps.{Step, Checks}
-use Rattle.ng_ends.specs.Writes.{Write}
-use Rattle.ng_ends.specs.Ends.{Call, Ends}
-use Rattle.ng_run.specs.Found.{Found, IsRead, AreRead}
+use Rattle.ng_args.specs.declared.words.ForecastWords.{ForecastWords}
+use Rattle.ng_call.specs.ending.Outside.{Outside, Same, ToSink}
+use Rattle.ng_call.specs.ending.Steps.{Step, Checks}
+use Rattle.ng_call.specs.ending.Writes.{Write}
+use Rattle.ng_call.specs.ending.Ends.{Call, Ends}
+use Rattle.ng_call.specs.Found.{Found, IsRead, AreRead}
 use Rattle.ng_forecast.specs.declared.ended.ForecastFault.{ForecastFault}
 use Rattle.ng_forecast.specs.declared.ended.ForecastFault.TheVariants.{Usage, Script, Capture, TooBig, ReadFault, WriteFault, Moving, Restless, Wide, Undefined, Big, NoMemory}
 use Rattle.ng_forecast.specs.Steps.{setting_in, IsRun, flights_in, forecast_steps}

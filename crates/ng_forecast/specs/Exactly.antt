@@ -4,13 +4,13 @@ use Rattle.ng_base.specs.declared.event.Event.{Event}
 use Rattle.ng_base.specs.declared.kind.Kind.{Kind}
 use Rattle.ng_machine.specs.Spread.{Spread}
 use Rattle.ng_outside.specs.Contents.{Contents}
-use Rattle.ng_words.specs.declared.words.ForecastWords.{ForecastWords}
-use Rattle.ng_ends.specs.Outside.{Outside, FileRose, PlaceRose, ToSink, Same}
-use Rattle.ng_ends.specs.Steps.{Step, first_fault}
-use Rattle.ng_ends.specs.Ends.{IsDone, IsStopped}
-use Rattle.ng_ends.specs.Causes.{Comes, NoReadFailed, EndsWell}
-use Rattle.ng_run.specs.Exactly as run
-use Rattle.ng_run.specs.Found.{Found}
+use Rattle.ng_args.specs.declared.words.ForecastWords.{ForecastWords}
+use Rattle.ng_call.specs.ending.Outside.{Outside, FileRose, PlaceRose, ToSink, Same}
+use Rattle.ng_call.specs.ending.Steps.{Step, first_fault}
+use Rattle.ng_call.specs.ending.Ends.{IsDone, IsStopped}
+use Rattle.ng_call.specs.ending.Causes.{Comes, NoReadFailed, EndsWell}
+use Rattle.ng_call.specs.Exactly as run
+use Rattle.ng_call.specs.Found.{Found}
 use Rattle.ng_forecast.specs.declared.ended.ForecastFault.{ForecastFault}
 use Rattle.ng_forecast.specs.declared.ended.ForecastFault.TheVariants.{Usage, ReadFault, WriteFault, NoMemory}
 use Rattle.ng_forecast.specs.declared.ended.Source.{Source}

@@ -1,3 +1,4 @@
+pub mod spread
 pub mod Arrivals
 pub mod Moving
 pub mod Packets

@@ -2,9 +2,9 @@
 use Rattle.std.specs.Prelude.{◌≡◌, ℕ, ◌+◌, ◌≤◌, nat_lt, if◌then◌else◌, List, [], ◌∷◌, Option, Some, None}
 use Rattle.ng_machine.specs.World.{NodeRecord}
 use Rattle.ng_machine.specs.Spread.{Spread, Flight, fed_flight, spread_in}
-use Rattle.ng_feed.specs.declared.arrival.Arrival.{Arrival}
-use Rattle.ng_spread.specs.Met.{met_in}
-use Rattle.ng_spread.specs.Weight.{weight}
+use Rattle.ngctl_script.specs.declared.feed.arrival.Arrival.{Arrival}
+use Rattle.ng_forecast.specs.spread.Met.{met_in}
+use Rattle.ng_forecast.specs.spread.Weight.{weight}
 use Rattle.ng_forecast.specs.declared.ended.ForecastFault.{ForecastFault}
 use Rattle.ng_forecast.specs.declared.ended.ForecastFault.TheVariants.{Wide, Undefined, Big}
 

@@ -7,16 +7,16 @@ use Rattle.ng_machine.specs.Spread.{Spread, Flight, spread_of_all}
 use Rattle.ng_outside.specs.Contents.{Contents, NotTold}
 use Rattle.ng_pcap.specs.declared.capture.Capture.{Capture as ReadCapture}
 use Rattle.ngctl_script.specs.Script.{commands_of}
-use Rattle.ng_feed.specs.Inputs.{Timed}
-use Rattle.ng_words.specs.declared.words.ForecastWords.{ForecastWords}
-use Rattle.ng_ends.specs.Outside.{Outside}
-use Rattle.ng_ends.specs.Steps.{Step, first_fault, Refuses}
-use Rattle.ng_run.specs.declared.ended.Fault.{Fault}
-use Rattle.ng_run.specs.declared.ended.Fault.TheVariants as run
-use Rattle.ng_run.specs.declared.ended.Which.{Which}
-use Rattle.ng_run.specs.declared.ended.Which.TheVariants as file
-use Rattle.ng_run.specs.Found.{Found, captures_in}
-use Rattle.ng_run.specs.Parts.{AreAllWritable}
+use Rattle.ngctl_script.specs.feed.Inputs.{Timed}
+use Rattle.ng_args.specs.declared.words.ForecastWords.{ForecastWords}
+use Rattle.ng_call.specs.ending.Outside.{Outside}
+use Rattle.ng_call.specs.ending.Steps.{Step, first_fault, Refuses}
+use Rattle.ng_call.specs.declared.ended.Fault.{Fault}
+use Rattle.ng_call.specs.declared.ended.Fault.TheVariants as run
+use Rattle.ng_call.specs.declared.ended.Which.{Which}
+use Rattle.ng_call.specs.declared.ended.Which.TheVariants as file
+use Rattle.ng_call.specs.Found.{Found, captures_in}
+use Rattle.ng_call.specs.Parts.{AreAllWritable}
 use Rattle.ng_forecast.specs.declared.ended.ForecastFault.{ForecastFault}
 use Rattle.ng_forecast.specs.declared.ended.ForecastFault.TheVariants.{Usage, Script, Capture, TooBig, ReadFault, WriteFault, NoMemory}
 use Rattle.ng_forecast.specs.declared.ended.Source.{Source}

@@ -8,14 +8,14 @@ use Rattle.ng_machine.specs.World.{World}
 use Rattle.ng_machine.specs.Spread.{Flight}
 use Rattle.ng_pcap.specs.declared.capture.Capture.{Capture}
 use Rattle.ngctl_script.specs.Script.{commands_of}
-use Rattle.ng_feed.specs.Inputs.{Timed, commands_that, is_first}
-use Rattle.ng_feed.specs.Merge.{merged}
-use Rattle.ng_reading.specs.Reading.{given}
-use Rattle.ng_words.specs.declared.words.ForecastWords.{ForecastWords}
-use Rattle.ng_ends.specs.Steps.{Step, Checks}
-use Rattle.ng_run.specs.Found.{Found, captures_in}
-use Rattle.ng_run.specs.Steps.{Names, script_steps, capture_steps}
-use Rattle.ng_run.specs.Writes.{is_stopped}
+use Rattle.ngctl_script.specs.feed.Inputs.{Timed, commands_that, is_first}
+use Rattle.ngctl_script.specs.feed.Merge.{merged}
+use Rattle.ng_table.specs.reading.Reading.{given}
+use Rattle.ng_args.specs.declared.words.ForecastWords.{ForecastWords}
+use Rattle.ng_call.specs.ending.Steps.{Step, Checks}
+use Rattle.ng_call.specs.Found.{Found, captures_in}
+use Rattle.ng_call.specs.Steps.{Names, script_steps, capture_steps}
+use Rattle.ng_call.specs.Writes.{is_stopped}
 use Rattle.ng_forecast.specs.declared.ended.ForecastFault.{ForecastFault}
 use Rattle.ng_forecast.specs.declared.ended.ForecastFault.TheVariants.{Script, Capture as WrongCapture, TooBig, ReadFault, Moving, Restless}
 use Rattle.ng_forecast.specs.declared.ended.Source.TheVariants as of

@@ -1,17 +1,18 @@
 // Where the copies of all packets leave.
 ghost use Rattle.std.specs.Prelude.{◌≡◌, ◌≤◌, ◌+◌, ◌<◌, ◌^◌, nat_lt, if◌then◌else◌, All, map, Some, None, IfOk, OnOk, IfErr, ◌⊎◌};
-ghost use Rattle.ng_spread.specs.Weight.{weight_at, weight};
+ghost use Rattle.ng_forecast.specs.spread.Weight.{weight_at, weight};
 ghost use Rattle.ng_machine.specs.Spread.{beside, spread_all, spread_in};
-ghost use Rattle.ng_spread.specs.Met.{met_in};
+ghost use Rattle.ng_forecast.specs.spread.Met.{met_in};
 ghost use Rattle.ng_forecast.specs.declared.ended.ForecastFault.TheVariants.{NoMemory as no_memory};
 ghost use Rattle.ng_forecast.specs.Packets.{Fails, Passes, flight_of, most_met, most_weight, packet_fault};
 
+use crate::spread::{Flight, Followed, Trail, follow};
 use crate::{ForecastFault, Spread};
 use ng_base::{NoMemory, Packet, Sequence};
-use ng_feed::Arrival;
+use ng_core::Still;
 use ng_machine::Place;
-use ng_node::Node;
-use ng_spread::{Flight, Followed, Still, Trail, follow};
+use ng_plan::node::Node;
+use ngctl_script::feed::Arrival;
 use std::alloc::Global;
 
 // So many packets are met at the most.

@@ -1,11 +1,12 @@
-//! The call of a forecast: reads what the words name, runs the commands in front of every mark, and tells where each packet of the
-//! captures leaves the graph that stands then, without running the packets.
+//! The call of a forecast: reads what the words name, runs the commands in front of every mark, and tells where each packet
+//! of the captures leaves the graph that stands then, without running the packets.
 #![tactic(auto)]
 
 mod bag;
 mod ended;
 mod line;
 mod read;
+pub mod spread;
 mod stand;
 mod text;
 mod top;

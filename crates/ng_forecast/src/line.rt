@@ -1,14 +1,14 @@
 // The line that tells a fault of a forecast.
 ghost use Rattle.std.specs.Prelude.{◌≡◌, ◌++◌, codes, map, slice_get, string_bytes, IfOk, OnOk, OnErr};
 ghost use Rattle.std.specs.Fmt.{decimal};
-ghost use Rattle.ng_run.specs.Line.{capture_words, port_name, script_words};
-ghost use Rattle.ng_words.specs.Forecast.{forecast_words_of};
+ghost use Rattle.ng_call.specs.Line.{capture_words, port_name, script_words};
+ghost use Rattle.ng_args.specs.Forecast.{forecast_words_of};
 ghost use Rattle.ng_forecast.specs.Line.{fault_line, fault_words, file_name, ports_named, script_named};
 
 use crate::{ForecastFault, Source};
+use ng_args::{ForecastWords, PortWord, read_forecast_words};
 use ng_base::NoMemory;
-use ng_run::{capture_words, script_words};
-use ng_words::{ForecastWords, PortWord, read_forecast_words};
+use ng_call::{capture_words, script_words};
 use std::alloc::{AllocError, Global};
 
 const USAGE: &str = "usage: ngrun --forecast HOPS NAME SCRIPT [PORT=IN ..]";

@@ -1,16 +1,16 @@
 // What a forecast reads.
 ghost use Rattle.std.specs.Prelude.{◌≡◌, ◌≤◌, ℕ, List, length, IfOk, IfErr};
-ghost use Rattle.ng_run.specs.Parts.{of_files};
+ghost use Rattle.ng_call.specs.Parts.{of_files};
 ghost use Rattle.ng_forecast.specs.Moving.{is_between, moving};
 ghost use Rattle.ngctl_script.specs.Script.{is_quit};
 ghost use Rattle.ng_forecast.specs.Parts.{IsReadIn, ReadStops, fault_of, source_of};
 
 use crate::{ForecastFault, Source};
+use ng_args::ForecastWords;
+use ng_call::{Fault, Which, read_ports, read_script_file};
 use ng_machine::{Command, What};
 use ng_outside::Files;
 use ng_pcap::Capture;
-use ng_run::{Fault, Which, read_ports, read_script_file};
-use ng_words::ForecastWords;
 use ngctl_script::{Script, When};
 use std::alloc::Global;
 

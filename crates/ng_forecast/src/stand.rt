@@ -1,27 +1,28 @@
 // The graph as the commands in front of every mark leave it, and the packets that come.
 ghost use Rattle.std.specs.Prelude.{◌≡◌, ◌≤◌, ◌++◌, ◌∷◌, [], All, true, length, map, IfOk, OnOk};
-ghost use Rattle.ng_feed.specs.Early.{IsEarly};
-ghost use Rattle.ng_feed.specs.Inputs.{commands_that, is_first};
-ghost use Rattle.ng_feed.specs.Merge.{merged};
+ghost use Rattle.ngctl_script.specs.feed.Early.{IsEarly};
+ghost use Rattle.ngctl_script.specs.feed.Inputs.{commands_that, is_first};
+ghost use Rattle.ngctl_script.specs.feed.Merge.{merged};
 ghost use Rattle.ng_machine.specs.Laws.{world_after};
 ghost use Rattle.ng_machine.specs.State.{kind_of};
-ghost use Rattle.ng_printable.specs.Scripts.{InputsAreFit};
-ghost use Rattle.ng_run.specs.Stocked.{IsStocked};
-ghost use Rattle.ng_run.specs.CoreStory.{story};
-ghost use Rattle.ng_story.specs.Story.{world_of};
-ghost use Rattle.ng_words.specs.Together.{are_ports};
+ghost use Rattle.ng_laws.specs.printable.Scripts.{InputsAreFit};
+ghost use Rattle.ng_core.specs.Stocked.{IsStocked};
+ghost use Rattle.ng_core.specs.CoreStory.{story};
+ghost use Rattle.ng_machine.specs.story.Story.{world_of};
+ghost use Rattle.ng_args.specs.Together.{are_ports};
 ghost use Rattle.ngctl_script.specs.Held.{AreCommands};
 ghost use Rattle.ng_forecast.specs.Arrivals.{packets_among};
 ghost use Rattle.ng_forecast.specs.Steps.{IsRun, setting_of};
 
+use ng_args::{ForecastWords, PortWord};
 use ng_base::{Name, NoMemory};
-use ng_feed::{Arrival, inputs};
+use ng_core::Core;
+use ng_laws::printable::inputs_are_fit;
 use ng_machine::{BoxedCommand, Input};
-use ng_node::Node;
 use ng_pcap::Capture;
-use ng_printable::inputs_are_fit;
-use ng_run::{Core, plain, plainly_is_plain, plainly_is_whole};
-use ng_words::{ForecastWords, PortWord};
+use ng_plan::node::Node;
+use ng_workers::pool::{plain, plainly_is_plain, plainly_is_whole};
+use ngctl_script::feed::{Arrival, inputs};
 use ngctl_script::{Script, When, read_script};
 use std::alloc::Global;
 

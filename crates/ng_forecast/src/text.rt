@@ -5,9 +5,9 @@ ghost use Rattle.ng_machine.specs.Spread.{same_place};
 ghost use Rattle.ng_machine.specs.declared.place.Place.TheVariants.{Reader};
 ghost use Rattle.ng_forecast.specs.Text.{bag_text, count_at, hook_line, hooks_from, port_line, port_lines, reader_hooks, with_name, with_place};
 
+use ng_args::PortWord;
 use ng_base::{Name, NoMemory, Packet};
 use ng_machine::Place;
-use ng_words::PortWord;
 use std::alloc::Global;
 use std::cmp::Ordering;
 

@@ -1,18 +1,18 @@
 // The top call.
 ghost use Rattle.std.specs.Prelude.{◌≡◌, ◌≤◌, ℕ, List, [], All, Some, true, map, length, string_bytes, IfOk, OnOk, IfErr, ◌⊎◌};
-ghost use Rattle.ng_feed.specs.Early.{IsEarly};
+ghost use Rattle.ngctl_script.specs.feed.Early.{IsEarly};
 ghost use Rattle.ng_base.specs.declared.kind.Kind.{Kind};
 ghost use Rattle.ng_machine.specs.State.{kind_of};
 ghost use Rattle.ng_outside.specs.Contents.{Contents};
 ghost use Rattle.ng_machine.specs.Spread.{spread_all, spread_in};
-ghost use Rattle.ng_run.specs.CoreStory.{story};
-ghost use Rattle.ng_story.specs.Story.{world_of};
+ghost use Rattle.ng_core.specs.CoreStory.{story};
+ghost use Rattle.ng_machine.specs.story.Story.{world_of};
 ghost use Rattle.ng_forecast.specs.Packets.{packet_fault};
 ghost use Rattle.ng_forecast.specs.declared.ended.ForecastFault.TheVariants.{NoMemory as no_memory};
-ghost use Rattle.ng_run.specs.Parts.{of_files, storing, outside, counting};
-ghost use Rattle.ng_run.specs.Stocked.{IsStocked};
-ghost use Rattle.ng_words.specs.Forecast.{forecast_words_of};
-ghost use Rattle.ng_words.specs.Together.{are_ports};
+ghost use Rattle.ng_call.specs.Parts.{of_files, storing, outside, counting};
+ghost use Rattle.ng_core.specs.Stocked.{IsStocked};
+ghost use Rattle.ng_args.specs.Forecast.{forecast_words_of};
+ghost use Rattle.ng_args.specs.Together.{are_ports};
 ghost use Rattle.ng_forecast.specs.Ends.{EndsBy, EndsWith, fault_status};
 ghost use Rattle.ng_forecast.specs.Exactly.{Completes, FaultComes, Foretells, LeavesPrefix, ReadsOnly, RefusesQuietly, UsageComes};
 ghost use Rattle.ng_forecast.specs.Parts.{IsForetold, IsForetoldOf, IsNotForetold, IsRefusedOf};
@@ -23,12 +23,13 @@ use crate::read::{ReadIn, read_in};
 use crate::stand::{arrivals_of, run_commands};
 use crate::text::bag_text;
 use crate::{Forecast, ForecastFault, Spread};
+use ng_args::{ForecastWords, read_forecast_words};
 use ng_base::Sequence;
-use ng_node::Node;
+use ng_call::is_stopped;
+use ng_core::Core;
 use ng_outside::{Files, Sink, put_all};
 use ng_pcap::Capture;
-use ng_run::{Core, is_stopped};
-use ng_words::{ForecastWords, read_forecast_words};
+use ng_plan::node::Node;
 use std::alloc::Global;
 
 fn fault_status(fault: ForecastFault) -> u8

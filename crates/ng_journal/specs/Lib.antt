@@ -1,3 +1,4 @@
+pub mod kept
 pub mod Journal
 pub mod Reading
 pub mod Laws

@@ -1,8 +1,10 @@
-//! A journal as a file: a head, and a line for each event.
+//! Journals: the events of a run as they are kept, in eight bytes each, and a journal as a file: a head, and a line for each
+//! event.
 #![tactic(auto)]
 
 mod fault;
 mod front;
+pub mod kept;
 mod laws;
 mod reading;
 mod split;

@@ -5,10 +5,10 @@ ghost use Rattle.ng_journal.specs.Reading.{event_of, events_from, id_of, item_ev
 
 use crate::JournalFault;
 use crate::front::front_event;
+use crate::kept::Journal;
 use crate::split::split_first;
 use ng_base::{Event, ItemId};
 use ng_decimal::read_decimal;
-use ng_events::Journal;
 use std::alloc::Global;
 
 const LINE_FEED: u8 = b'\n';

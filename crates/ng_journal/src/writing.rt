@@ -4,8 +4,8 @@ ghost use Rattle.std.specs.Fmt.{decimal};
 ghost use Rattle.std.specs.List.{flat_map};
 ghost use Rattle.ng_journal.specs.Journal.{event_line, event_words, journal_text};
 
+use crate::kept::Journal;
 use ng_base::{Event, NoMemory};
-use ng_events::Journal;
 use std::alloc::Global;
 
 fn put_number(alloc: Global, out: &mut Vec<u8>, number: u64) -> Result<(), NoMemory>

@@ -30,15 +30,15 @@ use Rattle.ng_machine.specs.Names.{lower, in_hook, out_hook, mixed, downstream, 
 use Rattle.ng_machine.specs.Counters.{Count}
 use Rattle.ng_machine.specs.Outcome.{nothing, sends_by, leaves, fails, counts_only}
 use Rattle.ng_machine.specs.Errors.{emsgsize}
-use Rattle.ng_machine.specs.Ether.{arrives}
-use Rattle.ng_machine.specs.Tee.{onward, copies}
-use Rattle.ng_machine.specs.One2many as many
-use Rattle.ng_machine.specs.Bridge as bridge
-use Rattle.ng_machine.specs.Macset.{is_group, source_of, goes_by, sifts, has_address}
-use Rattle.ng_machine.specs.Vlan as vlan
-use Rattle.ng_machine.specs.Patch as patch
-use Rattle.ng_machine.specs.Bpf as bpf
-use Rattle.ng_machine.specs.Etf as etf
+use Rattle.ng_machine.specs.kinds.Ether.{arrives}
+use Rattle.ng_machine.specs.kinds.Tee.{onward, copies}
+use Rattle.ng_machine.specs.kinds.One2many as many
+use Rattle.ng_machine.specs.kinds.Bridge as bridge
+use Rattle.ng_machine.specs.kinds.Macset.{is_group, source_of, goes_by, sifts, has_address}
+use Rattle.ng_machine.specs.kinds.Vlan as vlan
+use Rattle.ng_machine.specs.kinds.Patch as patch
+use Rattle.ng_machine.specs.kinds.Bpf as bpf
+use Rattle.ng_machine.specs.kinds.Etf as etf
 use Rattle.ng_bpf_vm.specs.Machine.{answer_of}
 use Rattle.ng_machine.specs.State.{KindState, HubState, HoleState, EchoState, SplitState, SocketState, TeeState, One2manyState, BridgeState, VlanState, PatchState, BpfState, EtherState, EtfState, MacsetState, State, way_of_kept}
 use Rattle.ng_machine.specs.Case.{outcome_by_plan}

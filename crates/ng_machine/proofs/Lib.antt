@@ -26,3 +26,4 @@ pub mod Knowing
 pub mod Costing
 pub mod Lowering
 pub mod Teaching
+pub mod Sendable

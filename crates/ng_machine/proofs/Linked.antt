@@ -12,7 +12,7 @@ use Rattle.ng_machine.specs.declared.body.Door.{Door}
 use Rattle.ng_machine.specs.Arguments.{number_at}
 use Rattle.ng_machine.specs.Counters.{Count, raise_at, row_bytes, zeros, after_counts}
 use Rattle.ng_machine.specs.Outcome.{Reply, invalid, sets, answers, with_length}
-use Rattle.ng_machine.specs.Bridge.{Bridge, Link, Standing, Known, Looped, News, Crowded, link_number, new_link, put_link, has_number, at_link, link_way, host_way, mute_of, count_bridge, count_bridge_if, calm_link, learn_by_standing, standing, by_link, by_link_number, by_link_found, bridge_message, bridge_messages, bridge_config_in, bridge_config_bytes, bridge_reset, bridge_clear, hosts_bytes, most_links}
+use Rattle.ng_machine.specs.kinds.Bridge.{Bridge, Link, Standing, Known, Looped, News, Crowded, link_number, new_link, put_link, has_number, at_link, link_way, host_way, mute_of, count_bridge, count_bridge_if, calm_link, learn_by_standing, standing, by_link, by_link_number, by_link_found, bridge_message, bridge_messages, bridge_config_in, bridge_config_bytes, bridge_reset, bridge_clear, hosts_bytes, most_links}
 use Rattle.ng_machine.specs.State.{KindState, HubState, HoleState, EchoState, SplitState, SocketState, TeeState, One2manyState, BridgeState, VlanState, PatchState, BpfState, EtherState, EtfState, MacsetState, State, blank_kept, kept_with_hook, kept_without_hook}
 use Rattle.ng_machine.specs.Case.{absorb, kept_after_frame, kept_after_tick, kept_after_learn, reply_of, outcome_of, kept_after}
 use Rattle.ng_machine.specs.Bounds.{links_of, LinksAreFew}

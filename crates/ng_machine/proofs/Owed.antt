@@ -21,16 +21,16 @@ use Rattle.ng_base.specs.Name.{is_name}
 use Rattle.ng_machine.specs.Arguments.{text_at}
 use Rattle.ng_machine.specs.Counters.{Count, Rows, raise_at, after_counts}
 use Rattle.ng_machine.specs.Outcome.{Reply, invalid, refuses, answers, with_length}
-use Rattle.ng_machine.specs.Hub.{hub_messages, hub_message}
-use Rattle.ng_machine.specs.Tee.{tee_messages, tee_message, tee_bytes}
-use Rattle.ng_machine.specs.One2many.{One2many, one2many_messages, one2many_message, config_bytes, count_many, many_after}
-use Rattle.ng_machine.specs.Bridge.{Bridge, Link, Host, bridge_messages, bridge_message, bridge_config_bytes, count_bridge, count_bridge_if, at_link, has_number, link_way, host_way, link_number, see_host, seen_number}
-use Rattle.ng_machine.specs.Vlan.{Vlan, vlan_messages, vlan_message}
-use Rattle.ng_machine.specs.Patch.{patch_messages, patch_message}
-use Rattle.ng_machine.specs.Bpf.{Filter, bpf_messages, bpf_message, of_hook, by_filter, is_of_hook, at_filter, count_filter, way_bytes}
-use Rattle.ng_machine.specs.Ether.{Ether, ether_messages, ether_message}
-use Rattle.ng_machine.specs.Etf.{Etf, etf_messages, etf_message, count_etf}
-use Rattle.ng_machine.specs.Macset.{Macset, macset_messages, macset_message, count_macset}
+use Rattle.ng_machine.specs.kinds.Hub.{hub_messages, hub_message}
+use Rattle.ng_machine.specs.kinds.Tee.{tee_messages, tee_message, tee_bytes}
+use Rattle.ng_machine.specs.kinds.One2many.{One2many, one2many_messages, one2many_message, config_bytes, count_many, many_after}
+use Rattle.ng_machine.specs.kinds.Bridge.{Bridge, Link, Host, bridge_messages, bridge_message, bridge_config_bytes, count_bridge, count_bridge_if, at_link, has_number, link_way, host_way, link_number, see_host, seen_number}
+use Rattle.ng_machine.specs.kinds.Vlan.{Vlan, vlan_messages, vlan_message}
+use Rattle.ng_machine.specs.kinds.Patch.{patch_messages, patch_message}
+use Rattle.ng_machine.specs.kinds.Bpf.{Filter, bpf_messages, bpf_message, of_hook, by_filter, is_of_hook, at_filter, count_filter, way_bytes}
+use Rattle.ng_machine.specs.kinds.Ether.{Ether, ether_messages, ether_message}
+use Rattle.ng_machine.specs.kinds.Etf.{Etf, etf_messages, etf_message, count_etf}
+use Rattle.ng_machine.specs.kinds.Macset.{Macset, macset_messages, macset_message, count_macset}
 use Rattle.ng_machine.specs.State.{KindState, HubState, HoleState, EchoState, SplitState, SocketState, TeeState, One2manyState, BridgeState, VlanState, PatchState, BpfState, EtherState, EtfState, MacsetState, State, kind_of_kept, kept_with_hook, kept_without_hook, kept_without_hooks, way_of_kept}
 use Rattle.ng_machine.specs.Case.{absorb, kept_after_frame, reply_of, kept_after_tick, kept_after_learn}
 use Rattle.ng_machine.specs.KindObligations.{AbsorbingPreserves}

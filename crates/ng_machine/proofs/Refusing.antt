@@ -12,16 +12,16 @@ use Rattle.ng_machine.specs.Words.{Every, first_refusal}
 use Rattle.ng_machine.specs.Arguments.{text_at, number_at}
 use Rattle.ng_machine.specs.Counters.{Rows, row_named}
 use Rattle.ng_machine.specs.Outcome.{Reply, invalid, refuses, sets, answers, with_length, unless_refused}
-use Rattle.ng_machine.specs.Hub.{hub_messages, hub_message}
-use Rattle.ng_machine.specs.Tee.{tee_messages, tee_message}
-use Rattle.ng_machine.specs.One2many as many
-use Rattle.ng_machine.specs.Bridge as bridge
-use Rattle.ng_machine.specs.Vlan.{Vlan, vlan_messages, vlan_message, add_filter, add_refusals, with_filter, delete_filter, delete_refusals, vlan_without_hook, set_kind, kind_refusals, filter_in}
-use Rattle.ng_machine.specs.Patch.{patch_messages, patch_message, set_ops, ops_refusals, ops_of}
-use Rattle.ng_machine.specs.Bpf.{Filter, bpf_messages, bpf_message, set_program, program_refusals, with_program, of_hook, by_filter, is_of_hook}
-use Rattle.ng_machine.specs.Ether.{Ether, ether_messages, ether_message}
-use Rattle.ng_machine.specs.Etf.{Etf, etf_messages, etf_message, set_filter, filter_refusals, with_etf_filter, etf_filter_in}
-use Rattle.ng_machine.specs.Macset.{Macset, macset_messages, macset_message, add_address, address_refusals, with_address, delete_address, delete_address_refusals, without_address}
+use Rattle.ng_machine.specs.kinds.Hub.{hub_messages, hub_message}
+use Rattle.ng_machine.specs.kinds.Tee.{tee_messages, tee_message}
+use Rattle.ng_machine.specs.kinds.One2many as many
+use Rattle.ng_machine.specs.kinds.Bridge as bridge
+use Rattle.ng_machine.specs.kinds.Vlan.{Vlan, vlan_messages, vlan_message, add_filter, add_refusals, with_filter, delete_filter, delete_refusals, vlan_without_hook, set_kind, kind_refusals, filter_in}
+use Rattle.ng_machine.specs.kinds.Patch.{patch_messages, patch_message, set_ops, ops_refusals, ops_of}
+use Rattle.ng_machine.specs.kinds.Bpf.{Filter, bpf_messages, bpf_message, set_program, program_refusals, with_program, of_hook, by_filter, is_of_hook}
+use Rattle.ng_machine.specs.kinds.Ether.{Ether, ether_messages, ether_message}
+use Rattle.ng_machine.specs.kinds.Etf.{Etf, etf_messages, etf_message, set_filter, filter_refusals, with_etf_filter, etf_filter_in}
+use Rattle.ng_machine.specs.kinds.Macset.{Macset, macset_messages, macset_message, add_address, address_refusals, with_address, delete_address, delete_address_refusals, without_address}
 use Rattle.ng_machine.specs.Effect.{is_fine}
 use Rattle.ng_machine.specs.State.{KindState, HubState, HoleState, EchoState, SplitState, SocketState, TeeState, One2manyState, BridgeState, VlanState, PatchState, BpfState, EtherState, EtfState, MacsetState, State}
 use Rattle.ng_machine.specs.Case.{reply_of}

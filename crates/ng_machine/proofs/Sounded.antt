@@ -16,23 +16,23 @@ use Rattle.ng_machine.specs.Errors.{einval}
 use Rattle.ng_base.specs.Name.{is_name}
 use Rattle.ng_machine.specs.Arguments.{number_at, text_at}
 use Rattle.ng_machine.specs.Rules.{accepts_hook}
-use Rattle.ng_machine.specs.One2many as many
-use Rattle.ng_machine.specs.Bridge as bridge
-use Rattle.ng_machine.specs.Vlan as vlan
-use Rattle.ng_machine.specs.Bpf as bpf
-use Rattle.ng_machine.specs.Etf as etf
+use Rattle.ng_machine.specs.kinds.One2many as many
+use Rattle.ng_machine.specs.kinds.Bridge as bridge
+use Rattle.ng_machine.specs.kinds.Vlan as vlan
+use Rattle.ng_machine.specs.kinds.Bpf as bpf
+use Rattle.ng_machine.specs.kinds.Etf as etf
 use Rattle.ng_machine.specs.declared.plan.VlanWay.{VlanWay}
 use Rattle.ng_machine.specs.declared.plan.EtfWay.{EtfWay}
 use Rattle.byteorder.specs.Endian.{big_number, little_bytes}
 use Rattle.ng_base.specs.declared.errno.Errno.{Errno}
 use Rattle.ng_machine.specs.declared.body.Door.{Door}
 use Rattle.ng_machine.specs.Counters.{Count, Rows, zeros, raise, raise_at, at_row, row_named, row_bytes, after_counts}
-use Rattle.ng_machine.specs.One2many.{One2many, count_many}
+use Rattle.ng_machine.specs.kinds.One2many.{One2many, count_many}
 use Rattle.ng_machine.specs.Outcome.{Reply, invalid, sets, answers, unless_refused, with_length}
-use Rattle.ng_machine.specs.Etf.{Etf, count_etf}
-use Rattle.ng_machine.specs.Vlan.{Vlan}
-use Rattle.ng_machine.specs.Bridge.{Bridge, Link, Host, Standing, Known, Looped, News, Crowded, link_number, put_link, new_link, has_number, at_link, see_host, seen_number, count_bridge, count_bridge_if, calm_link, age_host, rest_host, put_host, new_host, learn_by_standing, standing, mute_of, link_way, host_way}
-use Rattle.ng_machine.specs.Bpf.{Filter, new_filter, is_of_hook, at_filter, count_filter}
+use Rattle.ng_machine.specs.kinds.Etf.{Etf, count_etf}
+use Rattle.ng_machine.specs.kinds.Vlan.{Vlan}
+use Rattle.ng_machine.specs.kinds.Bridge.{Bridge, Link, Host, Standing, Known, Looped, News, Crowded, link_number, put_link, new_link, has_number, at_link, see_host, seen_number, count_bridge, count_bridge_if, calm_link, age_host, rest_host, put_host, new_host, learn_by_standing, standing, mute_of, link_way, host_way}
+use Rattle.ng_machine.specs.kinds.Bpf.{Filter, new_filter, is_of_hook, at_filter, count_filter}
 use Rattle.ng_machine.specs.State.{KindState, HubState, HoleState, EchoState, SplitState, SocketState, TeeState, One2manyState, BridgeState, VlanState, PatchState, BpfState, EtherState, EtfState, MacsetState, State, kind_of, kind_of_kept, kept_with_hook, kept_without_hook, blank_of}
 use Rattle.ng_machine.specs.SoundStates.{IsByHook, StatesStaySound}
 use Rattle.ng_machine.proofs.Owed.{made_kind, cut_kind, passed_kind, reply_kind, ticked_kind, learned_kind}

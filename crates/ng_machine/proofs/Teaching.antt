@@ -20,18 +20,18 @@ use Rattle.ng_machine.specs.declared.plan.VlanWay.{VlanWay}
 use Rattle.ng_machine.specs.Counters.{Count}
 use Rattle.ng_machine.specs.Names.{in_hook, out_hook, mixed, lower, downstream, nomatch, all_hook, known_hook, other_hook}
 use Rattle.ng_machine.specs.Outcome.{nothing, sends_by, counts_only}
-use Rattle.ng_machine.specs.Hub.{fans}
-use Rattle.ng_machine.specs.Echo.{echoes}
-use Rattle.ng_machine.specs.Tee.{tees}
-use Rattle.ng_machine.specs.Split.{parts}
-use Rattle.ng_machine.specs.One2many.{One2many, deals}
-use Rattle.ng_machine.specs.Vlan.{tags, by_tag, out_of_filter, into_filter, filter_of_hook, filter_of_number, control_of}
-use Rattle.ng_machine.specs.Patch.{patches, patch_by}
-use Rattle.ng_machine.specs.Bpf.{filters, by_way, to_target, is_way_of, sends_and_counts}
-use Rattle.ng_machine.specs.Ether.{passes, arrives}
-use Rattle.ng_machine.specs.Socket.{hands_over}
-use Rattle.ng_machine.specs.Etf.{sorts, goes_up, goes_down, is_short, etf_filter_of, ethertype_of, is_own, upward}
-use Rattle.ng_machine.specs.Macset.{picks, goes_by, source_of, has_address}
+use Rattle.ng_machine.specs.kinds.Hub.{fans}
+use Rattle.ng_machine.specs.kinds.Echo.{echoes}
+use Rattle.ng_machine.specs.kinds.Tee.{tees}
+use Rattle.ng_machine.specs.kinds.Split.{parts}
+use Rattle.ng_machine.specs.kinds.One2many.{One2many, deals}
+use Rattle.ng_machine.specs.kinds.Vlan.{tags, by_tag, out_of_filter, into_filter, filter_of_hook, filter_of_number, control_of}
+use Rattle.ng_machine.specs.kinds.Patch.{patches, patch_by}
+use Rattle.ng_machine.specs.kinds.Bpf.{filters, by_way, to_target, is_way_of, sends_and_counts}
+use Rattle.ng_machine.specs.kinds.Ether.{passes, arrives}
+use Rattle.ng_machine.specs.kinds.Socket.{hands_over}
+use Rattle.ng_machine.specs.kinds.Etf.{sorts, goes_up, goes_down, is_short, etf_filter_of, ethertype_of, is_own, upward}
+use Rattle.ng_machine.specs.kinds.Macset.{picks, goes_by, source_of, has_address}
 use Rattle.ng_machine.specs.State.{KindState, kind_of_kept, HubState, HoleState, EchoState, SplitState, SocketState, TeeState, One2manyState}
 use Rattle.ng_machine.specs.State.{BridgeState, VlanState, PatchState, BpfState, EtherState, EtfState, MacsetState}
 use Rattle.ng_machine.specs.Case.{outcome_of}

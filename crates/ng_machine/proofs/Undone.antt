@@ -13,9 +13,9 @@ use Rattle.ng_machine.specs.Words.{Every}
 use Rattle.ng_machine.specs.Names.{number_behind, is_numbered, digits}
 use Rattle.ng_machine.specs.Rules.{accepts_hook}
 use Rattle.ng_machine.specs.Counters.{zeros}
-use Rattle.ng_machine.specs.One2many.{One2many}
-use Rattle.ng_machine.specs.Bridge.{Bridge, Link, Host, link_number, link_hook, most_links, new_link, put_link, has_number, is_behind, elsewhere}
-use Rattle.ng_machine.specs.Bpf.{Filter, new_filter, is_of_hook}
+use Rattle.ng_machine.specs.kinds.One2many.{One2many}
+use Rattle.ng_machine.specs.kinds.Bridge.{Bridge, Link, Host, link_number, link_hook, most_links, new_link, put_link, has_number, is_behind, elsewhere}
+use Rattle.ng_machine.specs.kinds.Bpf.{Filter, new_filter, is_of_hook}
 use Rattle.ng_machine.specs.State.{KindState, HubState, HoleState, EchoState, SplitState, SocketState, TeeState, One2manyState, BridgeState, VlanState, PatchState, BpfState, EtherState, EtfState, MacsetState, State, kind_of_kept, kept_with_hook, kept_without_hook, add_hook, cut_hook}
 use Rattle.ng_machine.specs.Sound.{has_link, KeepsByHooks, IsSound, CutUndoes}
 

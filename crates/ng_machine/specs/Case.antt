@@ -11,20 +11,20 @@ use Rattle.ng_machine.specs.declared.plan.Plan.TheVariants.{Discard, Echo, Fan, 
 use Rattle.ng_machine.specs.State.{KindState, HubState, HoleState, EchoState, SplitState, SocketState, TeeState, One2manyState, BridgeState, VlanState, PatchState, BpfState, EtherState, EtfState, MacsetState, State, way_of}
 use Rattle.ng_machine.specs.Counters.{Count, count_row, after_counts}
 use Rattle.ng_machine.specs.Outcome.{nothing, Reply, sets, invalid}
-use Rattle.ng_machine.specs.Hub.{fans, hub_message}
-use Rattle.ng_machine.specs.Hole.{discards}
-use Rattle.ng_machine.specs.Echo.{echoes}
-use Rattle.ng_machine.specs.Tee.{tees, tee_message}
-use Rattle.ng_machine.specs.Split.{parts}
-use Rattle.ng_machine.specs.One2many.{deals, count_many, many_after, one2many_message}
-use Rattle.ng_machine.specs.Bridge.{bridges, count_bridge, bridge_learn, bridge_tick, bridge_message}
-use Rattle.ng_machine.specs.Vlan.{tags, vlan_message}
-use Rattle.ng_machine.specs.Patch.{patches, patch_message}
-use Rattle.ng_machine.specs.Bpf.{filters, count_filter, bpf_message}
-use Rattle.ng_machine.specs.Ether.{passes, ether_message}
-use Rattle.ng_machine.specs.Socket.{hands_over}
-use Rattle.ng_machine.specs.Etf.{sorts, count_etf, etf_message}
-use Rattle.ng_machine.specs.Macset.{picks, count_macset, macset_message}
+use Rattle.ng_machine.specs.kinds.Hub.{fans, hub_message}
+use Rattle.ng_machine.specs.kinds.Hole.{discards}
+use Rattle.ng_machine.specs.kinds.Echo.{echoes}
+use Rattle.ng_machine.specs.kinds.Tee.{tees, tee_message}
+use Rattle.ng_machine.specs.kinds.Split.{parts}
+use Rattle.ng_machine.specs.kinds.One2many.{deals, count_many, many_after, one2many_message}
+use Rattle.ng_machine.specs.kinds.Bridge.{bridges, count_bridge, bridge_learn, bridge_tick, bridge_message}
+use Rattle.ng_machine.specs.kinds.Vlan.{tags, vlan_message}
+use Rattle.ng_machine.specs.kinds.Patch.{patches, patch_message}
+use Rattle.ng_machine.specs.kinds.Bpf.{filters, count_filter, bpf_message}
+use Rattle.ng_machine.specs.kinds.Ether.{passes, ether_message}
+use Rattle.ng_machine.specs.kinds.Socket.{hands_over}
+use Rattle.ng_machine.specs.kinds.Etf.{sorts, count_etf, etf_message}
+use Rattle.ng_machine.specs.kinds.Macset.{picks, count_macset, macset_message}
 
 -- Packets
 

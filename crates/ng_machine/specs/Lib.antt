@@ -1,3 +1,5 @@
+pub mod story
+pub mod asking
 pub mod Words
 pub mod Errors
 pub mod Body
@@ -5,20 +7,7 @@ pub mod Names
 pub mod Arguments
 pub mod Counters
 pub mod Outcome
-pub mod Hub
-pub mod Hole
-pub mod Echo
-pub mod Tee
-pub mod Split
-pub mod One2many
-pub mod Macset
-pub mod Bridge
-pub mod Vlan
-pub mod Patch
-pub mod Bpf
-pub mod Ether
-pub mod Socket
-pub mod Etf
+pub mod kinds
 pub mod State
 pub mod Rules
 pub mod Case

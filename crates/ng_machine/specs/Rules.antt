@@ -11,7 +11,7 @@ use Rattle.ng_machine.specs.declared.farewell.Farewell.{Farewell}
 use Rattle.ng_machine.specs.declared.farewell.Farewell.TheVariants.{Plain, Stay, Bypass}
 use Rattle.ng_machine.specs.Errors.{einval}
 use Rattle.ng_machine.specs.Names.{lower, upper, in_hook, out_hook, mixed, left, right, tee_hooks, one, all_hook, known_hook, other_hook, is_numbered}
-use Rattle.ng_machine.specs.Bridge.{most_links}
+use Rattle.ng_machine.specs.kinds.Bridge.{most_links}
 use Rattle.ng_machine.specs.State.{KindState, HubState, HoleState, EchoState, SplitState, SocketState, TeeState, One2manyState, BridgeState, VlanState, PatchState, BpfState, EtherState, EtfState, MacsetState}
 
 -- the kind takes a hook of this name

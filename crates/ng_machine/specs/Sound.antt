@@ -7,8 +7,8 @@ use Rattle.ng_machine.specs.declared.plan.VlanWay.{VlanWay}
 use Rattle.ng_machine.specs.declared.plan.EtfWay.{EtfWay}
 use Rattle.ng_machine.specs.Words.{Every}
 use Rattle.ng_machine.specs.Rules.{accepts_hook}
-use Rattle.ng_machine.specs.Bridge.{Link, Host, link_number}
-use Rattle.ng_machine.specs.Bpf.{Filter}
+use Rattle.ng_machine.specs.kinds.Bridge.{Link, Host, link_number}
+use Rattle.ng_machine.specs.kinds.Bpf.{Filter}
 use Rattle.ng_machine.specs.State.{KindState, HubState, HoleState, EchoState, SplitState, SocketState, TeeState, One2manyState, BridgeState, VlanState, PatchState, BpfState, EtherState, EtfState, MacsetState, State, kind_of, add_hook, cut_hook}
 
 -- one of the hooks is that of a link

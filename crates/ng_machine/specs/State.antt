@@ -8,14 +8,14 @@ use Rattle.ng_machine.specs.declared.plan.Plan.{Plan}
 use Rattle.ng_machine.specs.declared.plan.Plan.TheVariants.{Discard, Echo as Echoes, Fan, Ways, Vlan as VlanPlan, Patch as PatchPlan, Bpf as BpfPlan, Ether as EtherPlan, Socket as SocketPlan, Bridge as BridgePlan, Etf as EtfPlan, Macset as MacsetPlan}
 use Rattle.ng_machine.specs.Names.{lower}
 use Rattle.ng_machine.specs.Counters.{Rows}
-use Rattle.ng_machine.specs.Tee.{blank_tee}
-use Rattle.ng_machine.specs.One2many.{One2many, blank_one2many, many_with_hook, many_without_hook}
-use Rattle.ng_machine.specs.Bridge.{Bridge, blank_bridge, bridge_with_hook, bridge_without_hook, link_way, host_way}
-use Rattle.ng_machine.specs.Vlan.{Vlan, blank_vlan, vlan_without_hook}
-use Rattle.ng_machine.specs.Bpf.{Filter, bpf_with_hook, bpf_without_hook}
-use Rattle.ng_machine.specs.Ether.{Ether, blank_ether}
-use Rattle.ng_machine.specs.Etf.{Etf, blank_etf, etf_without_hook}
-use Rattle.ng_machine.specs.Macset.{Macset, blank_macset}
+use Rattle.ng_machine.specs.kinds.Tee.{blank_tee}
+use Rattle.ng_machine.specs.kinds.One2many.{One2many, blank_one2many, many_with_hook, many_without_hook}
+use Rattle.ng_machine.specs.kinds.Bridge.{Bridge, blank_bridge, bridge_with_hook, bridge_without_hook, link_way, host_way}
+use Rattle.ng_machine.specs.kinds.Vlan.{Vlan, blank_vlan, vlan_without_hook}
+use Rattle.ng_machine.specs.kinds.Bpf.{Filter, bpf_with_hook, bpf_without_hook}
+use Rattle.ng_machine.specs.kinds.Ether.{Ether, blank_ether}
+use Rattle.ng_machine.specs.kinds.Etf.{Etf, blank_etf, etf_without_hook}
+use Rattle.ng_machine.specs.kinds.Macset.{Macset, blank_macset}
 
 -- what a kind keeps beside its hooks
 pub data KindState : Type 0 where

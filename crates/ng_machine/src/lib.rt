@@ -1,7 +1,9 @@
-//! The machine that applies one item after another to a graph of nodes: its types, and in `specs/` its
-//! definitions and the laws that hold of every run.
+//! The machine that applies one item after another to a graph of nodes: its types, and in `specs/` its definitions and the
+//! laws that hold of every run. The module `story` has the words in which the core's contracts speak of it, and `asking` the
+//! generic messages that every node knows.
 #![tactic(auto)]
 
+pub mod asking;
 mod body;
 mod command;
 mod farewell;
@@ -14,6 +16,7 @@ mod lost;
 mod outcome;
 mod place;
 mod plan;
+pub mod story;
 mod told;
 mod totals;
 

@@ -1,2 +1,4 @@
+pub mod lookup
+pub mod node
 pub mod Form
 pub mod Way

@@ -1,7 +1,7 @@
 -- Ways that a packet can be worked by: of a patch, each operation is one that setconfig takes.
 use Rattle.std.specs.Prelude.{◌≡◌, true}
 use Rattle.std.specs.List.{list_all}
-use Rattle.ng_machine.specs.Patch.{is_op}
+use Rattle.ng_machine.specs.kinds.Patch.{is_op}
 use Rattle.ng_machine.specs.declared.plan.Plan.{Plan}
 use Rattle.ng_machine.specs.declared.plan.Plan.TheVariants.{Discard, Echo, Fan, Ways, Vlan, Patch, Bpf, Ether, Socket, Bridge, Etf, Macset}
 

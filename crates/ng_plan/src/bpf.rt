@@ -1,11 +1,11 @@
 // ng_bpf(4): a program decides where a packet goes.
 ghost use Rattle.std.specs.Prelude.{◌≡◌, OnOk};
-ghost use Rattle.ng_machine.specs.Bpf.{by_match, filters, sends_and_counts, to_target};
+ghost use Rattle.ng_machine.specs.kinds.Bpf.{by_match, filters, sends_and_counts, to_target};
 ghost use Rattle.ng_machine.specs.Outcome.{counts_only, nothing};
 
+use crate::lookup::{NameTable, count_packet, send};
 use ng_base::{Name, NoMemory, Packet};
 use ng_bpf_vm::run;
-use ng_lookup::{NameTable, count_packet, send};
 use ng_machine::{BpfWay, Door, Outcome};
 use std::alloc::Global;
 

@@ -1,10 +1,10 @@
 // ng_echo(4): sends each packet back.
 ghost use Rattle.std.specs.Prelude.{◌≡◌, OnOk};
-ghost use Rattle.ng_machine.specs.Echo.{echoes};
+ghost use Rattle.ng_machine.specs.kinds.Echo.{echoes};
 ghost use Rattle.ng_machine.specs.Outcome.{nothing};
 
+use crate::lookup::send;
 use ng_base::{NoMemory, Packet};
-use ng_lookup::send;
 use ng_machine::{Door, Outcome};
 
 /// What becomes of a packet at an echo.

@@ -2,13 +2,13 @@
 ghost use Rattle.std.specs.Prelude.{◌≡◌, ◌≤◌, length, OnOk};
 ghost use Rattle.std.specs.List.{filter};
 ghost use Rattle.std.specs.Option.{option_copied};
-ghost use Rattle.ng_machine.specs.Etf.{etf_filter_of, ethertype_of, goes_back, goes_down, goes_up, is_own, is_short, sorts, upward};
+ghost use Rattle.ng_machine.specs.kinds.Etf.{etf_filter_of, ethertype_of, goes_back, goes_down, goes_up, is_own, is_short, sorts, upward};
 ghost use Rattle.ng_machine.specs.Outcome.{counts_only, nothing, sends_by};
 
+use crate::lookup::{Hooks, Table, downstream, is_named, nomatch, send, send_by};
 use byteorder::{BigEndian, ByteOrder};
 use ng_base::{Errno, Name, NoMemory, Packet};
 use ng_frame::MIN_FRAME_LEN;
-use ng_lookup::{Hooks, Table, downstream, is_named, nomatch, send, send_by};
 use ng_machine::{Door, EtfWay, Outcome};
 use std::alloc::Global;
 

@@ -1,10 +1,10 @@
 // ng_ether(4): joins the wire and the host of a port to the graph.
 ghost use Rattle.std.specs.Prelude.{◌≡◌, OnOk};
-ghost use Rattle.ng_machine.specs.Ether.{passes};
+ghost use Rattle.ng_machine.specs.kinds.Ether.{passes};
 ghost use Rattle.ng_machine.specs.Outcome.{nothing};
 
+use crate::lookup::{is_named, leave, lower, send};
 use ng_base::{NoMemory, Packet};
-use ng_lookup::{is_named, leave, lower, send};
 use ng_machine::{Door, Exit, Outcome};
 
 /// What becomes of a packet at an ether, which has the hook `lower` or not.

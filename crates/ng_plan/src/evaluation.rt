@@ -8,12 +8,12 @@ use crate::ether::pass;
 use crate::form::Form;
 use crate::hole::discard;
 use crate::hub::fan_out;
+use crate::lookup::{Hooks, nothing};
 use crate::plan::Plan;
 use crate::socket::hand_over;
 use crate::split::part;
 use crate::tee::copy_through;
 use ng_base::{Kind, NoMemory, Packet};
-use ng_lookup::{Hooks, nothing};
 use ng_machine::{Door, Outcome};
 use std::alloc::Global;
 

@@ -1,12 +1,12 @@
 // What a plan is made of: for each type, lists in which its rule finds what it looks for.
 use crate::bpf::BpfPlan;
+use crate::bridge_plan::BridgePlan;
 use crate::etf::EtfPlan;
+use crate::lookup::Hooks;
 use crate::macset::MacsetPlan;
 use crate::patch::PatchPlan;
 use crate::vlan::VlanPlan;
 use ng_base::{Kind, Names};
-use ng_bridge_plan::BridgePlan;
-use ng_lookup::Hooks;
 
 /// A plan, by the type of node.
 #[derive(Drop)]

@@ -1,6 +1,6 @@
 // ng_hole(4): discards each packet.
 ghost use Rattle.std.specs.Prelude.{◌≡◌};
-ghost use Rattle.ng_machine.specs.Hole.{discards};
+ghost use Rattle.ng_machine.specs.kinds.Hole.{discards};
 ghost use Rattle.ng_machine.specs.Outcome.{nothing};
 
 use ng_base::Packet;

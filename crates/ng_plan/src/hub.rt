@@ -1,10 +1,10 @@
 // ng_hub(4): sends each packet out of every other hook.
 ghost use Rattle.std.specs.Prelude.{◌≡◌, OnOk};
-ghost use Rattle.ng_machine.specs.Hub.{fans};
+ghost use Rattle.ng_machine.specs.kinds.Hub.{fans};
 ghost use Rattle.ng_machine.specs.Outcome.{nothing};
 
+use crate::lookup::send;
 use ng_base::{Name, NoMemory, Packet};
-use ng_lookup::send;
 use ng_machine::{Door, Outcome};
 
 /// The packet, out of each hook but one.

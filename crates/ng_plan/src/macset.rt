@@ -1,14 +1,14 @@
 // macset: parts frames by whether their source is in a set of addresses. The type is this project's own.
 ghost use Rattle.std.specs.Prelude.{◌≡◌, OnOk};
-ghost use Rattle.ng_machine.specs.Macset.{goes_by, has_address, picks, sifts};
+ghost use Rattle.ng_machine.specs.kinds.Macset.{goes_by, has_address, picks, sifts};
 ghost use Rattle.ng_machine.specs.Outcome.{nothing};
 
-use ng_base::{Errno, Name, NoMemory, Packet};
-use ng_frame::MIN_FRAME_LEN;
-use ng_lookup::{
+use crate::lookup::{
     Hooks, Table, address_number, all_hook, is_named, known_hook, other_hook, same_address, send,
     send_by, source_of,
 };
+use ng_base::{Errno, Name, NoMemory, Packet};
+use ng_frame::MIN_FRAME_LEN;
 use ng_machine::{Door, Outcome};
 use std::alloc::Global;
 

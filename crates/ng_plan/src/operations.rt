@@ -1,7 +1,7 @@
 // The operations of a patch node.
 ghost use Rattle.std.specs.Prelude.{◌≡◌, true};
 ghost use Rattle.std.specs.List.{list_all};
-ghost use Rattle.ng_machine.specs.Patch.{is_op};
+ghost use Rattle.ng_machine.specs.kinds.Patch.{is_op};
 
 use ng_base::Sequence;
 use ng_machine::PatchOp;
@@ -17,7 +17,7 @@ pub struct Operations {
 impl Model for Operations {
     ghost use Rattle.std.specs.Prelude.{◌≡◌, List, true};
     ghost use Rattle.std.specs.List.{list_all};
-    ghost use Rattle.ng_machine.specs.Patch.{is_op};
+    ghost use Rattle.ng_machine.specs.kinds.Patch.{is_op};
     ghost use Rattle.ng_machine.specs.declared.plan.PatchOp.{PatchOp};
 
     ghost Value = { List PatchOp };

@@ -2,12 +2,12 @@
 ghost use Rattle.std.specs.Prelude.{◌≡◌, ◌-◌, ◌^◌, ◌<◌, ◌≤◌, nat_lt, true, OnOk, slice_index_or};
 ghost use Rattle.std.specs.List.{fold};
 ghost use Rattle.ng_machine.specs.Outcome.{nothing};
-ghost use Rattle.ng_machine.specs.Patch.{is_op, modes, operation_result, patch_by, patches, shift_left, shift_right, width};
+ghost use Rattle.ng_machine.specs.kinds.Patch.{is_op, modes, operation_result, patch_by, patches, shift_left, shift_right, width};
 
+use crate::lookup::{Hooks, in_hook, is_named, out_hook, send, send_by};
 use crate::operations::Operations;
 use byteorder::{BigEndian, ByteOrder};
 use ng_base::{Name, NoMemory, Packet};
-use ng_lookup::{Hooks, in_hook, is_named, out_hook, send, send_by};
 use ng_machine::{Door, Outcome, PatchOp};
 use std::alloc::Global;
 

@@ -5,15 +5,15 @@ ghost use Rattle.ng_plan.specs.Form.{way_of_form};
 ghost use Rattle.ng_plan.specs.Way.{IsWorkable};
 
 use crate::bpf::BpfPlan;
+use crate::bridge_plan::BridgePlan;
 use crate::etf::EtfPlan;
 use crate::form::Form;
+use crate::lookup::{Filters, Hooks, NameTable, Table};
 use crate::macset::MacsetPlan;
 use crate::operations::Operations;
 use crate::patch::PatchPlan;
 use crate::vlan::VlanPlan;
 use ng_base::NoMemory;
-use ng_bridge_plan::BridgePlan;
-use ng_lookup::{Filters, Hooks, NameTable, Table};
 use ng_machine::{BpfWay, Plan as Way};
 use std::alloc::Global;
 use std::marker::Model;

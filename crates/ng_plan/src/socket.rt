@@ -1,10 +1,10 @@
 // ng_socket(4): hands each packet to the reader.
 ghost use Rattle.std.specs.Prelude.{◌≡◌, OnOk};
 ghost use Rattle.ng_machine.specs.Outcome.{nothing};
-ghost use Rattle.ng_machine.specs.Socket.{hands_over};
+ghost use Rattle.ng_machine.specs.kinds.Socket.{hands_over};
 
+use crate::lookup::leave;
 use ng_base::{NoMemory, Packet};
-use ng_lookup::leave;
 use ng_machine::{Door, Exit, Outcome};
 
 /// What becomes of a packet at a socket.

@@ -1,10 +1,10 @@
 // ng_split(4): parts what comes and what goes.
 ghost use Rattle.std.specs.Prelude.{◌≡◌, OnOk};
 ghost use Rattle.ng_machine.specs.Outcome.{nothing};
-ghost use Rattle.ng_machine.specs.Split.{parts};
+ghost use Rattle.ng_machine.specs.kinds.Split.{parts};
 
+use crate::lookup::{Hooks, is_named, mixed, out_hook, send_by};
 use ng_base::{Errno, Name, NoMemory, Packet};
-use ng_lookup::{Hooks, is_named, mixed, out_hook, send_by};
 use ng_machine::{Door, Outcome};
 
 fn part_by(

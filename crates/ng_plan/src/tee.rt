@@ -4,10 +4,10 @@ ghost use Rattle.std.specs.List.{filter};
 ghost use Rattle.ng_base.specs.Names.{has_name};
 ghost use Rattle.ng_machine.specs.Counters.{counts_packet};
 ghost use Rattle.ng_machine.specs.Outcome.{nothing};
-ghost use Rattle.ng_machine.specs.Tee.{copies, tees};
+ghost use Rattle.ng_machine.specs.kinds.Tee.{copies, tees};
 
+use crate::lookup::{Hooks, count_packet, is_named, left, left2right, right, right2left, send};
 use ng_base::{Name, NoMemory, Packet};
-use ng_lookup::{Hooks, count_packet, is_named, left, left2right, right, right2left, send};
 use ng_machine::{Door, Outcome};
 
 /// The numbers of the counters of octets and of frames that come by a hook and that go out of it.

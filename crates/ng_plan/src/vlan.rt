@@ -4,11 +4,11 @@ ghost use Rattle.std.specs.Int.{to_be_bytes, w16};
 ghost use Rattle.std.specs.Option.{option_copied};
 ghost use Rattle.ng_frame.specs.Frame.{IsTagged, tag_of};
 ghost use Rattle.ng_machine.specs.Outcome.{nothing};
-ghost use Rattle.ng_machine.specs.Vlan.{by_tag, control_of, filter_of_hook, into_filter, out_of_filter, tags};
+ghost use Rattle.ng_machine.specs.kinds.Vlan.{by_tag, control_of, filter_of_hook, into_filter, out_of_filter, tags};
 
+use crate::lookup::{Filters, Hooks, downstream, is_named, nomatch, send_by};
 use ng_base::{Errno, Name, NoMemory, Packet};
 use ng_frame::{MAX_UNTAGGED_LEN, MIN_FRAME_LEN, untag, with_tag, without_tag};
-use ng_lookup::{Filters, Hooks, downstream, is_named, nomatch, send_by};
 use ng_machine::{Door, Outcome, VlanWay};
 use std::alloc::Global;
 

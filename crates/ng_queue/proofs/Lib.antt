@@ -4,3 +4,4 @@ pub mod TakeableLemmas
 pub mod HeapLemmas
 pub mod QueuesLemmas
 pub mod BlankLemmas
+pub mod Sendable

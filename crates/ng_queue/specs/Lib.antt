@@ -1,3 +1,6 @@
+pub mod tie
+pub mod tally
+pub mod pending
 pub mod Queue
 pub mod Places
 pub mod QueueFields

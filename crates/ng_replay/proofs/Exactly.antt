@@ -1,21 +1,21 @@
 -- Where each answer of a replay comes.
 use Rattle.std.proofs.Common.{◌≡◌, ◌⊎◌, inl, inr, ◌∙◌, ℕ, List, [], ◌∷◌, Option, Some, None, refl, sym, ap, subst}
 use Rattle.ng_base.specs.declared.kind.Kind.{Kind}
-use Rattle.ng_ends.specs.Causes.{Comes, FailsReading, FailsWriting, NoReadFailed, NoWriteFailed, NoneReads, NoneWrites, EndsWell}
-use Rattle.ng_ends.specs.Ends.{Call, Ends, IsDone, IsRefused, IsStopped}
-use Rattle.ng_ends.specs.Outside.{Outside, Same}
-use Rattle.ng_ends.specs.Steps.{Step, Reads, Checks, first_fault, Refuses}
-use Rattle.ng_ends.proofs.Rows.{fault_comes, ends_well, reads_only, writes_only, refused_alone, stopped_alone}
-use Rattle.ng_judge.specs.Verdict.{IsVerdict}
-use Rattle.ng_judge.specs.declared.verdict.Verdict.{Verdict}
-use Rattle.ng_judge.specs.declared.verdict.Verdict.TheVariants as says
-use Rattle.ng_judge.proofs.Verdicts.{one_verdict}
+use Rattle.ng_call.specs.ending.Causes.{Comes, FailsReading, FailsWriting, NoReadFailed, NoWriteFailed, NoneReads, NoneWrites, EndsWell}
+use Rattle.ng_call.specs.ending.Ends.{Call, Ends, IsDone, IsRefused, IsStopped}
+use Rattle.ng_call.specs.ending.Outside.{Outside, Same}
+use Rattle.ng_call.specs.ending.Steps.{Step, Reads, Checks, first_fault, Refuses}
+use Rattle.ng_call.proofs.ending.Rows.{fault_comes, ends_well, reads_only, writes_only, refused_alone, stopped_alone}
+use Rattle.ng_replay.specs.judge.Verdict.{IsVerdict}
+use Rattle.ng_replay.specs.declared.judge.verdict.Verdict.{Verdict}
+use Rattle.ng_replay.specs.declared.judge.verdict.Verdict.TheVariants as says
+use Rattle.ng_replay.proofs.judge.Verdicts.{one_verdict}
 use Rattle.ng_outside.specs.Contents.{Contents}
-use Rattle.ng_run.specs.Found.{Found}
-use Rattle.ng_run.specs.Run.{setting_in}
-use Rattle.ng_run.proofs.Exactly as run
-use Rattle.ng_words.specs.declared.words.ReplayWords.{ReplayWords}
-use Rattle.ng_words.specs.declared.words.Source.TheVariants.{FromFiles}
+use Rattle.ng_call.specs.Found.{Found}
+use Rattle.ng_call.specs.Run.{setting_in}
+use Rattle.ng_call.proofs.Exactly as run
+use Rattle.ng_args.specs.declared.words.ReplayWords.{ReplayWords}
+use Rattle.ng_args.specs.declared.words.Source.TheVariants.{FromFiles}
 use Rattle.ng_replay.specs.Call.{AllFound, IsAllFound, call_of, events_in, fault_by, run_of, steps_in, writes_by}
 use Rattle.ng_replay.specs.Ends.{Concludes, EndsBut, EndsFor, EndsWith, Stopped, usage}
 use Rattle.ng_replay.specs.Exactly as exactly

@@ -1,13 +1,13 @@
 -- The steps of the journal's file.
 use Rattle.std.proofs.Common.{◌≡◌, inl, inr, ◌∙◌, ℕ, ◌<◌, ◌≤◌, List, [], length, None, Ok, Err, refl, ap}
 use Rattle.ng_base.specs.declared.event.Event.{Event}
-use Rattle.ng_ends.specs.Outside.{Outside, FileRose}
-use Rattle.ng_ends.specs.Steps.{MayBeThere, first_fault}
-use Rattle.ng_ends.proofs.Lists.{read_well}
+use Rattle.ng_call.specs.ending.Outside.{Outside, FileRose}
+use Rattle.ng_call.specs.ending.Steps.{MayBeThere, first_fault}
+use Rattle.ng_call.proofs.ending.Lists.{read_well}
 use Rattle.ng_journal.specs.Reading.{journal_of}
 use Rattle.ng_outside.specs.Contents.{IfHolds}
-use Rattle.ng_run.specs.Found.{IsRead}
-use Rattle.ng_run.proofs.Files.{big_read, check_first, check_later, checks_fine, over_is, over_none, told_or_empty, told_read}
+use Rattle.ng_call.specs.Found.{IsRead}
+use Rattle.ng_call.proofs.Files.{big_read, check_first, check_later, checks_fine, over_is, over_none, told_or_empty, told_read}
 use Rattle.ng_replay.specs.Call.{bad_line, journal_steps, most_journal}
 use Rattle.ng_replay.specs.Parts.{Stops}
 use Rattle.ng_replay.specs.declared.ended.Given.TheVariants as given

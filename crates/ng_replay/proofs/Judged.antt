@@ -3,22 +3,20 @@ use Rattle.std.proofs.Common.{◌≡◌, ◌∙◌, ℕ, ◌+◌, ◌≤◌, tru
 use Rattle.std.proofs.lemmas.List.{length-map}
 use Rattle.ng_base.specs.declared.event.Event.{Event}
 use Rattle.ng_base.specs.declared.kind.Kind.{Kind}
-use Rattle.ng_judge.specs.Following.{StandsAfter, all_with}
-use Rattle.ng_judge.specs.Verdict.{IsVerdict}
-use Rattle.ng_judge.specs.declared.verdict.Verdict.{Verdict}
+use Rattle.ng_replay.specs.judge.Following.{StandsAfter, all_with}
+use Rattle.ng_replay.specs.judge.Verdict.{IsVerdict}
+use Rattle.ng_replay.specs.declared.judge.verdict.Verdict.{Verdict}
 use Rattle.ng_machine.specs.declared.input.Input.{Input}
 use Rattle.ng_machine.specs.Laws.{Setting, world_after}
 use Rattle.ng_machine.specs.LowRun.{IsModest, most_ports}
 use Rattle.ng_machine.specs.Run.{RunState}
-use Rattle.ng_run.specs.Beginning.{begun_core}
-use Rattle.ng_run.specs.Calls.{are_different}
-use Rattle.ng_run.specs.CoreStory.{CoreStory, story}
-use Rattle.ng_story.specs.Story.{AreFitFor, world_of}
-use Rattle.ng_run.specs.Run.{MayRun, setting_of}
-use Rattle.ng_words.specs.Lists as words
-use Rattle.ng_words.specs.declared.port.PortWord.{PortWord}
-use Rattle.ng_words.specs.declared.words.ReplayWords.{ReplayWords}
-use Rattle.ng_run.proofs.Cores.{same_different}
+use Rattle.ng_core.specs.Beginning.{begun_core}
+use Rattle.ng_base.specs.Names.{are_different}
+use Rattle.ng_core.specs.CoreStory.{CoreStory, story}
+use Rattle.ng_machine.specs.story.Story.{AreFitFor, world_of}
+use Rattle.ng_call.specs.Run.{MayRun, setting_of}
+use Rattle.ng_args.specs.declared.port.PortWord.{PortWord}
+use Rattle.ng_args.specs.declared.words.ReplayWords.{ReplayWords}
 use Rattle.ng_replay.specs.Call.{run_of}
 
 module _ (kinds : List Kind) (w : ReplayWords) (inputs : List Input) where
@@ -32,8 +30,7 @@ module _ (kinds : List Kind) (w : ReplayWords) (inputs : List Input) where
   module _ (names : List (List ℕ)) (names_are : names ≡ names_in) (may : MayRun (setting_of kinds (run_of w) inputs)) where
     pub names_differ : are_different (w.own_name ∷ names) ≡ true
     names_differ =
-        same_different (w.own_name ∷ names)
-        ∙ ap (λ (l : List (List ℕ)). words.are_different (w.own_name ∷ l)) names_are
+        ap (λ (l : List (List ℕ)). are_different (w.own_name ∷ l)) names_are
         ∙ may.differ
 
     pub names_few : length names ≤ most_ports

@@ -1,23 +1,23 @@
 -- The script and the captures, and the journal behind them.
 use Rattle.std.proofs.Common.{◌≡◌, inl, inr, ◌∙◌, ℕ, ◌≤◌, List, ◌++◌, option_map, None, refl, sym, ap, subst}
-use Rattle.ng_ends.specs.Outside.{Outside}
-use Rattle.ng_ends.specs.Steps.{Step, first_fault, Refuses}
-use Rattle.ng_ends.proofs.Counts.{rose_since}
-use Rattle.ng_ends.proofs.Lists.{first_behind, refuses_behind, refuses_in_front, refuses_within}
+use Rattle.ng_call.specs.ending.Outside.{Outside}
+use Rattle.ng_call.specs.ending.Steps.{Step, first_fault, Refuses}
+use Rattle.ng_call.proofs.ending.Counts.{rose_since}
+use Rattle.ng_call.proofs.ending.Lists.{first_behind, refuses_behind, refuses_in_front, refuses_within}
 use Rattle.ng_machine.specs.declared.command.Command.{Command}
 use Rattle.ng_outside.specs.Contents.{Contents}
 use Rattle.ng_pcap.specs.declared.capture.Capture.{Capture}
-use Rattle.ng_run.specs.Ends as run
-use Rattle.ng_run.specs.Found.{Found, IsRead}
-use Rattle.ng_run.specs.Parts.{AllPass, of_files}
-use Rattle.ng_run.specs.Parts as parts
-use Rattle.ng_run.specs.Steps.{capture_steps, script_steps}
-use Rattle.ng_run.specs.declared.ended.Fault.{Fault}
-use Rattle.ng_run.proofs.Files.{told_or_empty, told_read}
-use Rattle.ng_run.proofs.Reading.{memory_all}
+use Rattle.ng_call.specs.Ends as run
+use Rattle.ng_call.specs.Found.{Found, IsRead}
+use Rattle.ng_call.specs.Parts.{AllPass, of_files}
+use Rattle.ng_call.specs.Parts as parts
+use Rattle.ng_call.specs.Steps.{capture_steps, script_steps}
+use Rattle.ng_call.specs.declared.ended.Fault.{Fault}
+use Rattle.ng_call.proofs.Files.{told_or_empty, told_read}
+use Rattle.ng_call.proofs.Reading.{memory_all}
 use Rattle.ngctl_script.specs.declared.when.When.{When}
-use Rattle.ng_words.specs.declared.words.ReplayWords.{ReplayWords}
-use Rattle.ng_words.specs.declared.words.Source.TheVariants.{FromFiles}
+use Rattle.ng_args.specs.declared.words.ReplayWords.{ReplayWords}
+use Rattle.ng_args.specs.declared.words.Source.TheVariants.{FromFiles}
 use Rattle.ng_replay.specs.Call.{AllFound, journal_steps, names, steps_in}
 use Rattle.ng_replay.specs.Faults.{replay_fault}
 use Rattle.ng_replay.specs.Parts.{AllRead, AllStop, Stops}

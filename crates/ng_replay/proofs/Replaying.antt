@@ -4,13 +4,13 @@ use Rattle.std.specs.Io.KnownBytes.{Appends}
 use Rattle.std.specs.List.{list_any}
 use Rattle.ng_base.specs.declared.event.Event.{Event}
 use Rattle.ng_base.specs.declared.kind.Kind.{Kind}
-use Rattle.ng_ends.specs.Outside.{Outside, Same}
-use Rattle.ng_ends.specs.Causes.{NoneChecked, NoneReads}
-use Rattle.ng_ends.specs.Steps.{Step, Reads, Checks, Refuses}
-use Rattle.ng_ends.proofs.Lists.{refuses_within}
-use Rattle.ng_judge.specs.Verdict.{IsVerdict}
-use Rattle.ng_judge.specs.declared.verdict.Verdict.{Verdict}
-use Rattle.ng_judge.specs.declared.verdict.Verdict.TheVariants as says
+use Rattle.ng_call.specs.ending.Outside.{Outside, Same}
+use Rattle.ng_call.specs.ending.Causes.{NoneChecked, NoneReads}
+use Rattle.ng_call.specs.ending.Steps.{Step, Reads, Checks, Refuses}
+use Rattle.ng_call.proofs.ending.Lists.{refuses_within}
+use Rattle.ng_replay.specs.judge.Verdict.{IsVerdict}
+use Rattle.ng_replay.specs.declared.judge.verdict.Verdict.{Verdict}
+use Rattle.ng_replay.specs.declared.judge.verdict.Verdict.TheVariants as says
 use Rattle.ng_machine.specs.declared.command.Command.{Command}
 use Rattle.ng_machine.specs.declared.input.Input.{Input}
 use Rattle.ng_machine.specs.Laws.{world_after}
@@ -19,18 +19,18 @@ use Rattle.ng_outside.specs.Contents.{Contents}
 use Rattle.ng_outside.specs.Count.{Rose}
 use Rattle.ng_outside.specs.Write.{AppendsPrefix}
 use Rattle.ng_pcap.specs.declared.capture.Capture.{Capture}
-use Rattle.ng_run.specs.Found.{captures_in}
-use Rattle.ng_run.specs.Parts.{counting, of_files, outside, storing}
-use Rattle.ng_run.specs.Run.{inputs_in, setting_in, setting_of, world_in}
-use Rattle.ng_run.specs.Writes.{is_stop, shown_by, text_in}
+use Rattle.ng_call.specs.Found.{captures_in}
+use Rattle.ng_call.specs.Parts.{counting, of_files, outside, storing}
+use Rattle.ng_call.specs.Run.{inputs_in, setting_in, setting_of, world_in}
+use Rattle.ng_call.specs.Writes.{is_stop, shown_by, text_in}
 use Rattle.ngctl_print.specs.Prints.{Prints}
 use Rattle.ngctl_print.specs.declared.stop.PrintStop.{PrintStop}
 use Rattle.ngctl_print.specs.declared.stop.PrintStop.TheVariants as stops
 use Rattle.ngctl_script.specs.Script.{commands_of}
 use Rattle.ngctl_script.specs.declared.when.When.{When}
-use Rattle.ngctl_text.specs.Text.{world_text}
-use Rattle.ng_words.specs.declared.port.PortWord.{PortWord}
-use Rattle.ng_words.specs.declared.words.ReplayWords.{ReplayWords}
+use Rattle.ngctl_print.specs.whole.Text.{world_text}
+use Rattle.ng_args.specs.declared.port.PortWord.{PortWord}
+use Rattle.ng_args.specs.declared.words.ReplayWords.{ReplayWords}
 use Rattle.ng_replay.specs.Call.{AllFound, call_of, events_if, events_in, run_of, steps_in}
 use Rattle.ng_replay.specs.Ends.{EndsBut, EndsFor, EndsWith, Stopped}
 use Rattle.ng_replay.specs.Parts.{AllRead, AllStop, Stops}

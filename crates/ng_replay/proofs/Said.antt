@@ -4,16 +4,17 @@ use Rattle.std.proofs.lemmas.Bool.{leb-true}
 use Rattle.ng_base.specs.Name.{IsName}
 use Rattle.ng_decimal.specs.Decimal.{number_from}
 use Rattle.ng_machine.specs.Words.{Every}
-use Rattle.ng_run.specs.Said as run
-use Rattle.ng_run.proofs.Said.{and_left, and_right, if_name, in_range, node_is_name}
-use Rattle.ng_words.specs.Lists.{are_different, are_undashed}
-use Rattle.ng_words.specs.Names.{is_node_name, node_name, file_name}
-use Rattle.ng_words.specs.Ports.{split_at, equals, port_parts, port_of, with_port, ports_of}
-use Rattle.ng_words.specs.Replay.{replay_said, replay_parts, are_replay_words, if_replay_words, replay_words_of}
-use Rattle.ng_words.specs.Together.{are_ports, are_files, ins, is_file, outs}
-use Rattle.ng_words.specs.declared.port.PortForm.TheVariants.{InAlone}
-use Rattle.ng_words.specs.declared.port.PortWord.{PortWord}
-use Rattle.ng_words.specs.declared.words.ReplayWords.{ReplayWords}
+use Rattle.ng_call.specs.Said as run
+use Rattle.ng_call.proofs.Said.{and_left, and_right, if_name, in_range, node_is_name}
+use Rattle.ng_args.specs.Lists.{are_undashed}
+use Rattle.ng_base.specs.Names.{are_different}
+use Rattle.ng_args.specs.Names.{is_node_name, node_name, file_name}
+use Rattle.ng_args.specs.Ports.{split_at, equals, port_parts, port_of, with_port, ports_of}
+use Rattle.ng_args.specs.Replay.{replay_said, replay_parts, are_replay_words, if_replay_words, replay_words_of}
+use Rattle.ng_args.specs.Together.{are_ports, are_files, ins, is_file, outs}
+use Rattle.ng_args.specs.declared.port.PortForm.TheVariants.{InAlone}
+use Rattle.ng_args.specs.declared.port.PortWord.{PortWord}
+use Rattle.ng_args.specs.declared.words.ReplayWords.{ReplayWords}
 use Rattle.ng_replay.specs.Said.{InForm}
 
 -- The parts of words

@@ -4,12 +4,12 @@ use Rattle.ng_base.specs.declared.event.Event.{Event}
 use Rattle.ng_journal.specs.Reading.{journal_of}
 use Rattle.ng_pcap.specs.declared.fault.CaptureFault.{CaptureFault}
 use Rattle.ngctl_script.specs.declared.fault.ScriptFault.{ScriptFault}
-use Rattle.ng_words.specs.declared.words.ReplayWords.{ReplayWords}
-use Rattle.ng_ends.specs.Steps.{Checks}
-use Rattle.ng_ends.specs.Causes.{NoneChecked, NoneReads}
-use Rattle.ng_ends.proofs.Sorts.{both_checked, both_reads, if_checked}
-use Rattle.ng_run.specs.Steps.{capture_steps, script_steps}
-use Rattle.ng_run.proofs.GivenSorts.{AreElse as AreGivenElse, captures_checked, captures_read, script_checked}
+use Rattle.ng_args.specs.declared.words.ReplayWords.{ReplayWords}
+use Rattle.ng_call.specs.ending.Steps.{Checks}
+use Rattle.ng_call.specs.ending.Causes.{NoneChecked, NoneReads}
+use Rattle.ng_call.proofs.ending.Sorts.{both_checked, both_reads, if_checked}
+use Rattle.ng_call.specs.Steps.{capture_steps, script_steps}
+use Rattle.ng_call.proofs.GivenSorts.{AreElse as AreGivenElse, captures_checked, captures_read, script_checked}
 use Rattle.ng_replay.specs.Call.{AllFound, bad_line, journal_steps, most_journal, names, steps_in}
 use Rattle.ng_replay.specs.declared.ended.Given.{Given}
 use Rattle.ng_replay.specs.declared.ended.Given.TheVariants as given

@@ -3,15 +3,15 @@ use Rattle.std.proofs.Common.{◌≡◌, inl, inr, ℕ, ◌+◌, nat_lt, Bool, t
 use Rattle.ng_outside.specs.Contents.{Contents, NotTold, NoFile, Holds}
 use Rattle.ng_pcap.specs.Reading.{capture_of}
 use Rattle.ngctl_script.specs.Script.{script_fault}
-use Rattle.ng_words.specs.declared.port.PortWord.{PortWord}
-use Rattle.ng_ends.specs.Outside.{Outside}
-use Rattle.ng_ends.specs.Steps.{Step, Reads, Checks, first_fault, unless_missing, Refuses}
-use Rattle.ng_run.specs.declared.ended.Fault.{Fault}
-use Rattle.ng_run.specs.declared.ended.Fault.TheVariants as of_run
-use Rattle.ng_run.specs.declared.ended.Which.TheVariants as of
-use Rattle.ng_run.specs.Ends as run
-use Rattle.ng_run.specs.Found.{Found}
-use Rattle.ng_run.specs.Steps.{capture_steps, fault_in, most_bytes, most_packets, most_script, over, packets_in, script_steps}
+use Rattle.ng_args.specs.declared.port.PortWord.{PortWord}
+use Rattle.ng_call.specs.ending.Outside.{Outside}
+use Rattle.ng_call.specs.ending.Steps.{Step, Reads, Checks, first_fault, unless_missing, Refuses}
+use Rattle.ng_call.specs.declared.ended.Fault.{Fault}
+use Rattle.ng_call.specs.declared.ended.Fault.TheVariants as of_run
+use Rattle.ng_call.specs.declared.ended.Which.TheVariants as of
+use Rattle.ng_call.specs.Ends as run
+use Rattle.ng_call.specs.Found.{Found}
+use Rattle.ng_call.specs.Steps.{capture_steps, fault_in, most_bytes, most_packets, most_script, over, packets_in, script_steps}
 use Rattle.ng_replay.specs.Call.{names}
 use Rattle.ng_replay.specs.Faults.{replay_fault}
 use Rattle.ng_replay.specs.declared.ended.ReplayFault.{ReplayFault}

@@ -3,24 +3,24 @@
 use Rattle.std.specs.Prelude.{ℕ, List, [], ◌∷◌, ◌++◌, length, map, Option, Some, None, Result, Ok, Err}
 use Rattle.ng_base.specs.declared.event.Event.{Event}
 use Rattle.ng_base.specs.declared.kind.Kind.{Kind}
-use Rattle.ng_ends.specs.Ends.{Call}
-use Rattle.ng_ends.specs.Outside.{ToSink}
-use Rattle.ng_ends.specs.Steps.{Step, Reads, Checks}
-use Rattle.ng_ends.specs.Writes.{Write}
+use Rattle.ng_call.specs.ending.Ends.{Call}
+use Rattle.ng_call.specs.ending.Outside.{ToSink}
+use Rattle.ng_call.specs.ending.Steps.{Step, Reads, Checks}
+use Rattle.ng_call.specs.ending.Writes.{Write}
 use Rattle.ng_journal.specs.Reading.{journal_of}
-use Rattle.ng_judge.specs.Verdict.{IsVerdict}
-use Rattle.ng_judge.specs.declared.verdict.Verdict.{Verdict}
-use Rattle.ng_judge.specs.declared.verdict.Verdict.TheVariants as says
+use Rattle.ng_replay.specs.judge.Verdict.{IsVerdict}
+use Rattle.ng_replay.specs.declared.judge.verdict.Verdict.{Verdict}
+use Rattle.ng_replay.specs.declared.judge.verdict.Verdict.TheVariants as says
 use Rattle.ng_machine.specs.State.{State, kind_of}
 use Rattle.ng_outside.specs.Contents.{Contents}
-use Rattle.ng_run.specs.Ends as run
-use Rattle.ng_run.specs.Found.{Found, IsRead}
-use Rattle.ng_run.specs.Run.{setting_in}
-use Rattle.ng_run.specs.Steps.{Names, script_steps, capture_steps, over}
-use Rattle.ng_run.specs.Writes.{text_in}
-use Rattle.ng_words.specs.declared.words.ReplayWords.{ReplayWords}
-use Rattle.ng_words.specs.declared.words.Source.TheVariants.{FromFiles}
-use Rattle.ng_words.specs.declared.words.Words.{Words}
+use Rattle.ng_call.specs.Ends as run
+use Rattle.ng_call.specs.Found.{Found, IsRead}
+use Rattle.ng_call.specs.Run.{setting_in}
+use Rattle.ng_call.specs.Steps.{Names, script_steps, capture_steps, over}
+use Rattle.ng_call.specs.Writes.{text_in}
+use Rattle.ng_args.specs.declared.words.ReplayWords.{ReplayWords}
+use Rattle.ng_args.specs.declared.words.Source.TheVariants.{FromFiles}
+use Rattle.ng_args.specs.declared.words.Words.{Words}
 use Rattle.ng_replay.specs.declared.ended.Given.TheVariants as given
 use Rattle.ng_replay.specs.declared.ended.ReplayFault.{ReplayFault}
 use Rattle.ng_replay.specs.declared.ended.ReplayFault.TheVariants.{Script, Capture, Journal, TooBig, ReadFault, WriteFault, No, NoMemory}

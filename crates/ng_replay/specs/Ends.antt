@@ -1,12 +1,12 @@
 -- How a replay ends: its status, its fault, and what was written.
 use Rattle.std.specs.Prelude.{◌≡◌, ℕ, List, [], ◌∷◌, Option, Some, None}
 use Rattle.ng_base.specs.declared.kind.Kind.{Kind}
-use Rattle.ng_ends.specs.Ends.{Call, Ends}
-use Rattle.ng_ends.specs.Outside.{Outside}
-use Rattle.ng_ends.specs.Steps.{Checks}
-use Rattle.ng_judge.specs.declared.verdict.Verdict.{Verdict}
-use Rattle.ng_judge.specs.declared.verdict.Verdict.TheVariants as says
-use Rattle.ng_words.specs.declared.words.ReplayWords.{ReplayWords}
+use Rattle.ng_call.specs.ending.Ends.{Call, Ends}
+use Rattle.ng_call.specs.ending.Outside.{Outside}
+use Rattle.ng_call.specs.ending.Steps.{Checks}
+use Rattle.ng_replay.specs.declared.judge.verdict.Verdict.{Verdict}
+use Rattle.ng_replay.specs.declared.judge.verdict.Verdict.TheVariants as says
+use Rattle.ng_args.specs.declared.words.ReplayWords.{ReplayWords}
 use Rattle.ng_replay.specs.Call.{AllFound, IsAllFound, call_of}
 use Rattle.ng_replay.specs.Faults.{status_of}
 use Rattle.ng_replay.specs.declared.ended.ReplayFault.{ReplayFault}

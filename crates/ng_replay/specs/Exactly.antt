@@ -1,18 +1,18 @@
 -- Where each answer comes, where the files tell what they hold.
 use Rattle.std.specs.Prelude.{◌≡◌, ◌⊎◌, ℕ, List, Option, Some, None}
 use Rattle.ng_base.specs.declared.kind.Kind.{Kind}
-use Rattle.ng_ends.specs.Causes.{Comes, FailsReading, FailsWriting, NoReadFailed, NoWriteFailed}
-use Rattle.ng_ends.specs.Ends.{IsDone, IsStopped}
-use Rattle.ng_ends.specs.Outside.{Outside, Same}
-use Rattle.ng_ends.specs.Steps.{first_fault}
-use Rattle.ng_judge.specs.Verdict.{IsVerdict}
-use Rattle.ng_judge.specs.declared.verdict.Verdict.{Verdict}
-use Rattle.ng_judge.specs.declared.verdict.Verdict.TheVariants as says
+use Rattle.ng_call.specs.ending.Causes.{Comes, FailsReading, FailsWriting, NoReadFailed, NoWriteFailed}
+use Rattle.ng_call.specs.ending.Ends.{IsDone, IsStopped}
+use Rattle.ng_call.specs.ending.Outside.{Outside, Same}
+use Rattle.ng_call.specs.ending.Steps.{first_fault}
+use Rattle.ng_replay.specs.judge.Verdict.{IsVerdict}
+use Rattle.ng_replay.specs.declared.judge.verdict.Verdict.{Verdict}
+use Rattle.ng_replay.specs.declared.judge.verdict.Verdict.TheVariants as says
 use Rattle.ng_outside.specs.Contents.{Contents}
-use Rattle.ng_run.specs.Exactly as run
-use Rattle.ng_run.specs.Run.{setting_in}
-use Rattle.ng_words.specs.declared.words.ReplayWords.{ReplayWords}
-use Rattle.ng_words.specs.declared.words.Source.TheVariants.{FromFiles}
+use Rattle.ng_call.specs.Exactly as run
+use Rattle.ng_call.specs.Run.{setting_in}
+use Rattle.ng_args.specs.declared.words.ReplayWords.{ReplayWords}
+use Rattle.ng_args.specs.declared.words.Source.TheVariants.{FromFiles}
 use Rattle.ng_replay.specs.Call.{AllFound, call_of, events_in, fault_by, run_of, steps_in}
 use Rattle.ng_replay.specs.declared.ended.Given.{Given}
 use Rattle.ng_replay.specs.declared.ended.ReplayFault.{ReplayFault}

@@ -1,9 +1,9 @@
 -- The faults of a replay, and their statuses.
 use Rattle.std.specs.Prelude.{ℕ, Option, Some, None}
-use Rattle.ng_run.specs.declared.ended.Fault.{Fault}
-use Rattle.ng_run.specs.declared.ended.Fault.TheVariants as of_run
-use Rattle.ng_run.specs.declared.ended.Which.{Which}
-use Rattle.ng_run.specs.declared.ended.Which.TheVariants as of
+use Rattle.ng_call.specs.declared.ended.Fault.{Fault}
+use Rattle.ng_call.specs.declared.ended.Fault.TheVariants as of_run
+use Rattle.ng_call.specs.declared.ended.Which.{Which}
+use Rattle.ng_call.specs.declared.ended.Which.TheVariants as of
 use Rattle.ng_replay.specs.declared.ended.Given.{Given}
 use Rattle.ng_replay.specs.declared.ended.Given.TheVariants as given
 use Rattle.ng_replay.specs.declared.ended.ReplayFault.{ReplayFault}

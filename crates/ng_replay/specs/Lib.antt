@@ -1,3 +1,4 @@
+pub mod judge
 pub mod Faults
 pub mod Call
 pub mod Said

@@ -1,13 +1,13 @@
 -- The line that tells a fault of a replay, on standard error.
 use Rattle.std.specs.Prelude.{ℕ, List, [], ◌∷◌, ◌++◌, codes, option_map, Option, Some, None}
 use Rattle.std.specs.Fmt.{decimal}
-use Rattle.ng_run.specs.Line.{fault_words}
-use Rattle.ng_run.specs.declared.ended.Fault.{Fault}
-use Rattle.ng_run.specs.declared.ended.Fault.TheVariants as of_run
-use Rattle.ng_run.specs.declared.ended.Which.{Which}
-use Rattle.ng_run.specs.declared.ended.Which.TheVariants as of
-use Rattle.ng_words.specs.declared.words.ReplayWords.{ReplayWords}
-use Rattle.ng_words.specs.declared.words.Words.{Words}
+use Rattle.ng_call.specs.Line.{fault_words}
+use Rattle.ng_call.specs.declared.ended.Fault.{Fault}
+use Rattle.ng_call.specs.declared.ended.Fault.TheVariants as of_run
+use Rattle.ng_call.specs.declared.ended.Which.{Which}
+use Rattle.ng_call.specs.declared.ended.Which.TheVariants as of
+use Rattle.ng_args.specs.declared.words.ReplayWords.{ReplayWords}
+use Rattle.ng_args.specs.declared.words.Words.{Words}
 use Rattle.ng_replay.specs.Call.{run_of}
 use Rattle.ng_replay.specs.declared.ended.Given.{Given}
 use Rattle.ng_replay.specs.declared.ended.Given.TheVariants as given

@@ -1,17 +1,17 @@
 -- What the steps of a replay come to, in the words of the functions that make them.
 use Rattle.std.specs.Prelude.{◌≡◌, ◌⊎◌, ℕ, List, None, Ok}
 use Rattle.ng_base.specs.declared.event.Event.{Event}
-use Rattle.ng_ends.specs.Outside.{Outside}
-use Rattle.ng_ends.specs.Steps.{Step, first_fault, Refuses}
+use Rattle.ng_call.specs.ending.Outside.{Outside}
+use Rattle.ng_call.specs.ending.Steps.{Step, first_fault, Refuses}
 use Rattle.ng_journal.specs.Reading.{journal_of}
 use Rattle.ng_machine.specs.declared.command.Command.{Command}
 use Rattle.ng_outside.specs.Contents.{Contents}
 use Rattle.ng_pcap.specs.declared.capture.Capture.{Capture}
-use Rattle.ng_run.specs.Found.{IsRead}
-use Rattle.ng_run.specs.Parts.{AllPass}
+use Rattle.ng_call.specs.Found.{IsRead}
+use Rattle.ng_call.specs.Parts.{AllPass}
 use Rattle.ngctl_script.specs.declared.when.When.{When}
-use Rattle.ng_words.specs.declared.words.ReplayWords.{ReplayWords}
-use Rattle.ng_words.specs.declared.words.Source.TheVariants.{FromFiles}
+use Rattle.ng_args.specs.declared.words.ReplayWords.{ReplayWords}
+use Rattle.ng_args.specs.declared.words.Source.TheVariants.{FromFiles}
 use Rattle.ng_replay.specs.Call.{AllFound, IsAllFound, journal_steps, steps_in}
 use Rattle.ng_replay.specs.declared.ended.ReplayFault.{ReplayFault}
 use Rattle.ng_replay.specs.declared.ended.ReplayFault.TheVariants.{NoMemory}

@@ -1,7 +1,7 @@
 -- What is known of words that are in form.
 use Rattle.std.specs.Prelude.{◌≤◌}
-use Rattle.ng_run.specs.Said as run
-use Rattle.ng_words.specs.declared.words.ReplayWords.{ReplayWords}
+use Rattle.ng_call.specs.Said as run
+use Rattle.ng_args.specs.declared.words.ReplayWords.{ReplayWords}
 use Rattle.ng_replay.specs.Call.{run_of}
 
 -- those of the run that it is of are

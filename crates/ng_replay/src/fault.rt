@@ -3,7 +3,7 @@ ghost use Rattle.std.specs.Prelude.{◌≡◌};
 ghost use Rattle.ng_replay.specs.Faults.{fault_status, given_of, replay_fault, status_of};
 
 use crate::{Given, ReplayFault, Replayed};
-use ng_run::{Fault, Which};
+use ng_call::{Fault, Which};
 
 // Only a script and captures are read as a run reads them.
 fn given_of(which: Which) -> Given

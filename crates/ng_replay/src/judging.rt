@@ -1,21 +1,21 @@
 // A journal is judged by a core that is made for it.
 ghost use Rattle.std.specs.Prelude.{◌≡◌, ◌≤◌, length, map, IfOk};
-ghost use Rattle.ng_judge.specs.Verdict.{IsVerdict};
-ghost use Rattle.ng_judge.specs.declared.verdict.Verdict.TheVariants.{Yes};
+ghost use Rattle.ng_replay.specs.judge.Verdict.{IsVerdict};
+ghost use Rattle.ng_replay.specs.declared.judge.verdict.Verdict.TheVariants.{Yes};
 ghost use Rattle.ng_machine.specs.Laws.{world_after};
 ghost use Rattle.ng_replay.specs.Call.{kinds_of, run_of};
-ghost use Rattle.ng_run.specs.Run.{MayRun, setting_of};
-ghost use Rattle.ng_run.specs.Stocked.{IsStocked};
-ghost use Rattle.ng_run.specs.CoreStory.{story};
-ghost use Rattle.ng_story.specs.Story.{world_of};
+ghost use Rattle.ng_call.specs.Run.{MayRun, setting_of};
+ghost use Rattle.ng_core.specs.Stocked.{IsStocked};
+ghost use Rattle.ng_core.specs.CoreStory.{story};
+ghost use Rattle.ng_machine.specs.story.Story.{world_of};
 
+use crate::judge::{Verdict, judge};
+use ng_args::{PortWord, ReplayWords};
 use ng_base::{Name, NoMemory};
-use ng_events::Journal;
-use ng_judge::{Verdict, judge};
+use ng_core::Core;
+use ng_journal::kept::Journal;
 use ng_machine::Input;
-use ng_node::Node;
-use ng_run::Core;
-use ng_words::{PortWord, ReplayWords};
+use ng_plan::node::Node;
 use std::alloc::Global;
 
 // The names of the ports, in order.

@@ -1,9 +1,10 @@
-//! The call of a replay: reads a script, captures and a journal, and says whether the journal is one of their run; then it writes
-//! the text of that run.
+//! The call of a replay: reads a script, captures and a journal, and judges whether the journal is one of their run; then it
+//! writes the text of that run.
 #![tactic(auto)]
 
 mod ended;
 mod fault;
+pub mod judge;
 mod judging;
 mod line;
 mod reading;

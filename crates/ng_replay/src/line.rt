@@ -2,13 +2,13 @@
 ghost use Rattle.std.specs.Prelude.{◌≡◌, ◌++◌, map, string_bytes, IfOk, OnOk, OnErr};
 ghost use Rattle.ng_replay.specs.Line.{own_words, replay_line, replay_words, said_as, which_of};
 ghost use Rattle.ng_replay.specs.Call.{run_of};
-ghost use Rattle.ng_words.specs.Replay.{replay_words_of};
+ghost use Rattle.ng_args.specs.Replay.{replay_words_of};
 ghost use Rattle.std.specs.Option.{option_map};
 
 use crate::{Given, ReplayFault};
+use ng_args::{ReplayWords, Source, Words, read_replay_words};
 use ng_base::NoMemory;
-use ng_run::{Fault, Which, fault_words};
-use ng_words::{ReplayWords, Source, Words, read_replay_words};
+use ng_call::{Fault, Which, fault_words};
 use std::alloc::{AllocError, Global};
 
 const USAGE: &str = "usage: ngrun --replay BUDGET WORKERS NAME JOURNAL SCRIPT [PORT=IN ..]";

@@ -1,19 +1,19 @@
 // The files that a replay reads.
 ghost use Rattle.std.specs.Prelude.{◌≡◌, ◌≤◌, ℕ, List, None, Ok, length, IfOk, IfErr};
-ghost use Rattle.ng_ends.specs.Steps.{first_fault};
+ghost use Rattle.ng_call.specs.ending.Steps.{first_fault};
 ghost use Rattle.ng_journal.specs.Reading.{journal_of};
-ghost use Rattle.ng_run.specs.Found.{IsRead};
-ghost use Rattle.ng_run.specs.Parts.{of_files};
+ghost use Rattle.ng_call.specs.Found.{IsRead};
+ghost use Rattle.ng_call.specs.Parts.{of_files};
 ghost use Rattle.ng_replay.specs.Call.{journal_steps};
 ghost use Rattle.ng_replay.specs.Parts.{AllRead, AllStop, Stops};
 
 use crate::fault::replay_fault;
 use crate::{Given, ReplayFault};
-use ng_events::Journal;
+use ng_args::ReplayWords;
+use ng_call::{ReadIn, read_files};
+use ng_journal::kept::Journal;
 use ng_journal::{JournalFault, read_journal};
 use ng_outside::{Files, ReadStop, read_whole};
-use ng_run::{ReadIn, read_files};
-use ng_words::ReplayWords;
 use std::alloc::Global;
 
 // A journal has at most so many bytes.

@@ -1,22 +1,23 @@
 // The text of a run that a core has made.
 ghost use Rattle.std.specs.Prelude.{◌≡◌, ◌≤◌, length, IfOk};
 ghost use Rattle.std.specs.List.{list_any};
-ghost use Rattle.ng_run.specs.Writes.{is_stop, shown_by};
-ghost use Rattle.ng_run.specs.CoreStory.{story};
-ghost use Rattle.ng_story.specs.Story.{world_of};
+ghost use Rattle.ng_call.specs.Writes.{is_stop, shown_by};
+ghost use Rattle.ng_core.specs.CoreStory.{story};
+ghost use Rattle.ng_machine.specs.story.Story.{world_of};
 ghost use Rattle.ngctl_print.specs.Prints.{Prints};
-ghost use Rattle.ngctl_text.specs.Text.{reports, world_text};
-ghost use Rattle.ngctl_text.specs.Told.{ArePrintable};
+ghost use Rattle.ngctl_print.specs.whole.Text.{reports, world_text};
+ghost use Rattle.ngctl_print.specs.whole.Told.{ArePrintable};
 
+use ng_args::PortWord;
 use ng_base::NoMemory;
-use ng_events::Journal;
+use ng_call::is_stopped;
+use ng_core::Core;
+use ng_journal::kept::Journal;
 use ng_machine::Command;
-use ng_node::Node;
 use ng_outside::Sink;
-use ng_run::{Core, is_stopped};
-use ng_words::PortWord;
+use ng_plan::node::Node;
 use ngctl_print::PrintStop;
-use ngctl_text::{PortReport, Summary, print_text};
+use ngctl_print::whole::{PortReport, Summary, print_text};
 use std::alloc::Global;
 
 // The lines of the ports, each with the place where its capture was cut.

@@ -1,32 +1,34 @@
 // The top call.
 ghost use Rattle.std.specs.Prelude.{ℕ, List, map, string_bytes};
 ghost use Rattle.ng_outside.specs.Contents.{Contents};
-ghost use Rattle.ng_printable.specs.Printable.{ToldIsPrintable};
-ghost use Rattle.ng_printable.specs.Scripts.{InputsAreFit, InputsAreOfScript, InputsAreTimed};
+ghost use Rattle.ng_laws.specs.printable.Printable.{ToldIsPrintable};
+ghost use Rattle.ng_laws.specs.printable.Scripts.{InputsAreFit, InputsAreOfScript, InputsAreTimed};
 ghost use Rattle.ngctl_script.specs.Held.{AreCommands};
 ghost use Rattle.ng_replay.specs.Call.{kinds_of};
 ghost use Rattle.ng_replay.specs.Ends.{EndsBy, EndsFor, EndsWith};
 ghost use Rattle.ng_replay.specs.Exactly.{Accepts, FaultComes, Judges, LeavesPrefix, ReadsOnly, Refuses, RefusesQuietly, UsageComes};
 ghost use Rattle.ng_replay.specs.Parts.{AllRead};
 ghost use Rattle.ng_replay.specs.Said.{InForm};
-ghost use Rattle.ng_run.specs.Parts.{counting, outside, storing};
-ghost use Rattle.ng_run.specs.Stocked.{IsStocked};
-ghost use Rattle.ng_words.specs.Replay.{replay_words_of};
+ghost use Rattle.ng_call.specs.Parts.{counting, outside, storing};
+ghost use Rattle.ng_core.specs.Stocked.{IsStocked};
+ghost use Rattle.ng_args.specs.Replay.{replay_words_of};
 
 use crate::fault::ended_by;
+use crate::judge::Verdict;
 use crate::judging::judge_run;
 use crate::reading::{ReadAll, read_all};
 use crate::text::print_core;
 use crate::{ReplayFault, Replayed};
-use ng_feed::inputs;
-use ng_judge::Verdict;
-use ng_node::Node;
+use ng_args::{ReplayWords, read_replay_words};
+use ng_call::{ReadIn, ReadScript, cuts_of};
+use ng_laws::printable::{
+    inputs_are_fit, inputs_are_of_script, inputs_are_timed, told_is_printable,
+};
 use ng_outside::{Files, Sink};
-use ng_printable::{inputs_are_fit, inputs_are_of_script, inputs_are_timed, told_is_printable};
-use ng_run::{ReadIn, ReadScript, cuts_of};
-use ng_words::{ReplayWords, read_replay_words};
+use ng_plan::node::Node;
 use ngctl_print::PrintStop;
 use ngctl_script::Script;
+use ngctl_script::feed::inputs;
 use std::alloc::Global;
 
 // What is known of the inputs of a script.

@@ -9,26 +9,26 @@ use Rattle.ng_machine.specs.Laws.{IsJournal, world_after}
 use Rattle.ng_machine.specs.World.{World}
 use Rattle.ng_pcap.specs.declared.capture.Capture.{Capture}
 use Rattle.ngctl_script.specs.Script.{commands_of}
-use Rattle.ngctl_text.specs.Text.{world_text}
-use Rattle.ng_words.specs.Run.{ports_from}
-use Rattle.ng_words.specs.declared.port.PortWord.{PortWord}
-use Rattle.ng_words.specs.declared.words.Words.{Words}
-use Rattle.ng_ends.specs.Outside.{Outside, Same}
-use Rattle.ng_ends.specs.Steps.{first_fault, Refuses}
-use Rattle.ng_ends.specs.Ends.{Ends}
-use Rattle.ng_ends.proofs.Counts.{rose_since}
-use Rattle.ng_ends.proofs.Lists.{refuses_within}
+use Rattle.ngctl_print.specs.whole.Text.{world_text}
+use Rattle.ng_args.specs.Run.{ports_from}
+use Rattle.ng_args.specs.declared.port.PortWord.{PortWord}
+use Rattle.ng_args.specs.declared.words.Words.{Words}
+use Rattle.ng_call.specs.ending.Outside.{Outside, Same}
+use Rattle.ng_call.specs.ending.Steps.{first_fault, Refuses}
+use Rattle.ng_call.specs.ending.Ends.{Ends}
+use Rattle.ng_call.proofs.ending.Counts.{rose_since}
+use Rattle.ng_call.proofs.ending.Lists.{refuses_within}
 use Rattle.ng_outside.specs.Contents.{Contents}
-use Rattle.ng_ends.specs.Writes.{Write, WritesAll, StopsAt, StopsFor}
-use Rattle.ng_run.specs.declared.ended.Fault.{Fault}
-use Rattle.ng_run.specs.declared.ended.Fault.TheVariants.{NoMemory}
-use Rattle.ng_run.specs.Found.{Found, captures_in}
-use Rattle.ng_run.specs.Run.{setting_of, setting_in, inputs_in, world_in, IsRun}
-use Rattle.ng_run.specs.Writes.{is_stop, is_error, shown_by, text_write, out_writes, journal_writes, writes_in}
-use Rattle.ng_run.specs.Parts.{of_files, storing, outside, counting, Stops, AllStop}
-use Rattle.ng_run.proofs.Reading.{memory_all}
+use Rattle.ng_call.specs.ending.Writes.{Write, WritesAll, StopsAt, StopsFor}
+use Rattle.ng_call.specs.declared.ended.Fault.{Fault}
+use Rattle.ng_call.specs.declared.ended.Fault.TheVariants.{NoMemory}
+use Rattle.ng_call.specs.Found.{Found, captures_in}
+use Rattle.ng_call.specs.Run.{setting_of, setting_in, inputs_in, world_in, IsRun}
+use Rattle.ng_call.specs.Writes.{is_stop, is_error, shown_by, text_write, out_writes, journal_writes, writes_in}
+use Rattle.ng_call.specs.Parts.{of_files, storing, outside, counting, Stops, AllStop}
+use Rattle.ng_call.proofs.Reading.{memory_all}
 use Rattle.ng_run.proofs.Writing.{since}
-use Rattle.ng_run.specs.Ends.{IsFound, EndsBy, EndsWith, call_of, steps_in, fault_status}
+use Rattle.ng_call.specs.Ends.{IsFound, EndsBy, EndsWith, call_of, steps_in, fault_status}
 
 module _ (kinds : List Kind) (w : Words) (o : Outside) (found : Found) (is : IsFound o.old.files w.source found) where
   -- memory ran out before the run

@@ -1,16 +1,3 @@
-pub mod Captures
-pub mod Files
-pub mod Ports
-pub mod Reading
-pub mod Reports
 pub mod Writing
-pub mod GivenSorts
-pub mod Sorts
-pub mod Said
-pub mod Running
 pub mod Ending
-pub mod Apart
-pub mod Exactly
-pub mod Cores
 pub mod Runs
-pub use Rattle.ng_workers.proofs.PortCounts

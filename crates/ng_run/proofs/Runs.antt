@@ -7,15 +7,15 @@ use Rattle.ng_machine.specs.Laws.{IsJournal, run_state_after, start, world_after
 use Rattle.ng_machine.specs.Orderly.{IsWhole}
 use Rattle.ng_machine.specs.Plain.{IsPlain}
 use Rattle.ng_machine.specs.Run.{RunState}
-use Rattle.ng_run.specs.Run as run
-use Rattle.ng_run.specs.Run.{IsRun}
-use Rattle.ng_workers.specs.CoreStory.{CoreStory, setting_of, story}
-use Rattle.ng_workers.proofs.PortCounts.{ports_stay}
-use Rattle.ng_story.specs.Story.{has_ended, run_state_of, with_more, world_of}
-use Rattle.ng_words.specs.declared.words.Words.{Words}
-use Rattle.ng_words.specs.Run.{ports_from}
-use Rattle.ng_run.specs.Stocked.{begun_by}
-use Rattle.ng_run.proofs.Cores.{begun_runs}
+use Rattle.ng_call.specs.Run as run
+use Rattle.ng_call.specs.Run.{IsRun}
+use Rattle.ng_core.specs.CoreStory.{CoreStory, setting_of, story}
+use Rattle.ng_core.proofs.PortCounts.{ports_stay}
+use Rattle.ng_machine.specs.story.Story.{has_ended, run_state_of, with_more, world_of}
+use Rattle.ng_args.specs.declared.words.Words.{Words}
+use Rattle.ng_args.specs.Run.{ports_from}
+use Rattle.ng_run.specs.Begun.{begun_by}
+use Rattle.ng_core.proofs.Stocked.{begun_runs}
 
 -- its journal is orderly over all inputs, and whole, and their run ends where it stands
 abbrev pub IsWholeRun : List Kind → Words → ℕ → List Input → CoreStory → Type 0

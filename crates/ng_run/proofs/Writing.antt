@@ -4,22 +4,22 @@ use Rattle.std.specs.Io.KnownBytes.{Appends}
 use Rattle.std.proofs.lemmas.Option.{get_or_from_slice_get}
 use Rattle.ng_base.specs.declared.event.Event.{Event}
 use Rattle.ng_machine.specs.World.{Port, blank_port}
-use Rattle.ng_words.specs.Together.{is_file}
-use Rattle.ng_words.specs.declared.port.PortWord.{PortWord}
+use Rattle.ng_args.specs.Together.{is_file}
+use Rattle.ng_args.specs.declared.port.PortWord.{PortWord}
 use Rattle.ng_outside.specs.Count.{Rose}
 use Rattle.ng_outside.specs.Contents.{Contents, HoldsNow, KeptOrBegun}
-use Rattle.ng_ends.specs.Outside.{Stored, Outside, Place, ToSink, ToFile, PlaceRose}
-use Rattle.ng_ends.specs.Writes.{Write, Writes, WritesAll, StopsAt, StopsFor}
-use Rattle.ng_ends.proofs.Lists.{stops_within, writes_behind, stops_in_front, stops_behind}
-use Rattle.ng_ends.proofs.Counts.{rose_since}
+use Rattle.ng_call.specs.ending.Outside.{Stored, Outside, Place, ToSink, ToFile, PlaceRose}
+use Rattle.ng_call.specs.ending.Writes.{Write, Writes, WritesAll, StopsAt, StopsFor}
+use Rattle.ng_call.proofs.ending.Lists.{stops_within, writes_behind, stops_in_front, stops_behind}
+use Rattle.ng_call.proofs.ending.Counts.{rose_since}
 use Rattle.ng_journal.specs.Journal.{journal_text}
-use Rattle.ngctl_text.specs.Captures.{left_of}
-use Rattle.ng_run.specs.declared.ended.Fault.{Fault}
-use Rattle.ng_run.specs.declared.ended.Fault.TheVariants.{NoMemory, WriteFault}
-use Rattle.ng_run.specs.declared.ended.Which.TheVariants.{Leaving}
-use Rattle.ng_run.specs.Run.{port_at}
-use Rattle.ng_run.specs.Writes.{text_write, out_write, out_writes, journal_writes}
-use Rattle.ng_run.specs.Parts.{of_files, storing, outside, counting}
+use Rattle.ngctl_print.specs.whole.Captures.{left_of}
+use Rattle.ng_call.specs.declared.ended.Fault.{Fault}
+use Rattle.ng_call.specs.declared.ended.Fault.TheVariants.{NoMemory, WriteFault}
+use Rattle.ng_call.specs.declared.ended.Which.TheVariants.{Leaving}
+use Rattle.ng_call.specs.Run.{port_at}
+use Rattle.ng_call.specs.Writes.{text_write, out_write, out_writes, journal_writes}
+use Rattle.ng_call.specs.Parts.{of_files, storing, outside, counting}
 
 -- a list from a place on
 pub drop_at : {X : Type 0} (k : ℕ) (xs : List X) → k < length xs → (x : X) × (slice_get xs k ≡ Some x) × (drop k xs ≡ x ∷ drop (k + 1) xs)

@@ -1,14 +1,1 @@
-pub mod Said
-pub mod Found
-pub mod Steps
-pub mod Run
-pub mod Writes
-pub mod Ends
-pub mod Parts
-pub mod Exactly
-pub mod Line
-pub mod Stocked
-pub use Rattle.ng_workers.specs.Calls
-pub use Rattle.ng_workers.specs.CoreStory
-pub use Rattle.ng_workers.specs.Beginning
-pub use Rattle.ng_workers.specs.Plainly
+pub mod Begun

@@ -2,45 +2,24 @@
 ghost use Rattle.std.specs.Prelude.{◌≡◌, ◌≤◌, List, length, map, IfOk};
 ghost use Rattle.std.specs.List.{list_any};
 ghost use Rattle.ng_machine.specs.declared.told.Told.{Told};
-ghost use Rattle.ng_workers.specs.CoreStory.{story};
-ghost use Rattle.ng_story.specs.Story.{world_of};
+ghost use Rattle.ng_core.specs.CoreStory.{story};
+ghost use Rattle.ng_machine.specs.story.Story.{world_of};
 ghost use Rattle.ng_pcap.specs.declared.capture.Capture.{Capture};
 ghost use Rattle.ngctl_print.specs.Prints.{Prints};
-ghost use Rattle.ngctl_text.specs.Text.{world_text, reports};
-ghost use Rattle.ngctl_text.specs.Told.{ArePrintable};
-ghost use Rattle.ng_run.specs.Writes.{is_stop, is_error, shown_by};
+ghost use Rattle.ngctl_print.specs.whole.Text.{world_text, reports};
+ghost use Rattle.ngctl_print.specs.whole.Told.{ArePrintable};
+ghost use Rattle.ng_call.specs.Writes.{is_stop, is_error, shown_by};
 
-use ng_base::{Event, NoMemory};
-use ng_events::Journal;
+use ng_args::PortWord;
+use ng_base::NoMemory;
+use ng_call::is_stopped;
+use ng_core::Core;
 use ng_machine::{Command, Told};
-use ng_node::Node;
 use ng_outside::Sink;
-use ng_words::PortWord;
-use ng_workers::Core;
+use ng_plan::node::Node;
 use ngctl_print::PrintStop;
-use ngctl_text::{PortReport, Summary, print_text};
+use ngctl_print::whole::{PortReport, Summary, print_text};
 use std::alloc::Global;
-
-fn is_stop(event: Event) -> bool
-    ensures { result ≡ is_stop event }
-{
-    match event {
-        Event::Stop => true,
-        _ => false,
-    }
-}
-
-/// Whether the run of a journal stopped at its limit of applied items: the journal has a Stop.
-pub fn is_stopped(journal: &Journal) -> bool
-    ensures { result ≡ list_any is_stop journal.now.items }
-{
-    for event in journal.events() {
-        if is_stop(event) {
-            return true;
-        }
-    }
-    false
-}
 
 fn is_error(told: &Told) -> bool
     ensures { result ≡ is_error told.now }

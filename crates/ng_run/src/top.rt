@@ -1,41 +1,36 @@
 // The top call.
 ghost use Rattle.std.specs.Prelude.{◌≡◌, ◌≤◌, ℕ, List, [], Option, Some, if◌then◌else◌, map, length, string_bytes, IfOk};
 ghost use Rattle.std.specs.List.{list_any};
-ghost use Rattle.ng_printable.specs.Printable.{ToldIsPrintable, LeftIsWritable};
-ghost use Rattle.ng_printable.specs.Scripts.{InputsAreOfScript, InputsAreFit, InputsAreTimed};
+ghost use Rattle.ng_laws.specs.printable.Printable.{ToldIsPrintable, LeftIsWritable};
+ghost use Rattle.ng_laws.specs.printable.Scripts.{InputsAreOfScript, InputsAreFit, InputsAreTimed};
 ghost use Rattle.ngctl_script.specs.Held.{AreCommands};
-ghost use Rattle.ng_run.specs.Writes.{is_stop, is_error};
+ghost use Rattle.ng_call.specs.Writes.{is_stop, is_error};
 ghost use Rattle.ng_machine.specs.State.{kind_of};
 ghost use Rattle.ng_outside.specs.Contents.{Contents};
-ghost use Rattle.ng_workers.specs.CoreStory.{story};
-ghost use Rattle.ng_story.specs.Story.{world_of};
-ghost use Rattle.ng_words.specs.Run.{words_of, ports_from};
-ghost use Rattle.ng_run.specs.declared.ended.Fault.TheVariants.{NoMemory as no_memory};
-ghost use Rattle.ng_run.specs.Said.{InForm};
-ghost use Rattle.ng_run.specs.Stocked.{IsStocked};
-ghost use Rattle.ng_run.specs.Exactly.{UsageComes, FaultComes, Completes, ReadsOnly, WritesOnly, LeavesPrefix, RefusesQuietly, DoesAll, KeepsOthers, RunsPlainly, WritesEach};
-ghost use Rattle.ng_run.specs.Ends.{EndsBy, EndsWith, fault_status};
-ghost use Rattle.ng_run.specs.Parts.{storing, outside, counting, AllPass};
+ghost use Rattle.ng_core.specs.CoreStory.{story};
+ghost use Rattle.ng_machine.specs.story.Story.{world_of};
+ghost use Rattle.ng_args.specs.Run.{words_of, ports_from};
+ghost use Rattle.ng_call.specs.declared.ended.Fault.TheVariants.{NoMemory as no_memory};
+ghost use Rattle.ng_call.specs.Said.{InForm};
+ghost use Rattle.ng_core.specs.Stocked.{IsStocked};
+ghost use Rattle.ng_call.specs.Exactly.{UsageComes, FaultComes, Completes, ReadsOnly, WritesOnly, LeavesPrefix, RefusesQuietly, DoesAll, KeepsOthers, RunsPlainly, WritesEach};
+ghost use Rattle.ng_call.specs.Ends.{EndsBy, EndsWith, fault_status};
+ghost use Rattle.ng_call.specs.Parts.{storing, outside, counting, AllPass};
 
-use crate::found::{ReadIn, ReadScript};
-use crate::made::read_made;
 use crate::making::run_core;
-use crate::read::read_files;
-use crate::text::{has_error, is_stopped};
+use crate::text::has_error;
 use crate::write::write_all;
-use crate::{Ended, Fault};
-use ng_base::NoMemory;
-use ng_events::Journal;
-use ng_feed::inputs;
-use ng_node::Node;
-use ng_outside::{Files, Gate, Sink};
-use ng_pcap::Capture;
-use ng_printable::{
+use ng_args::{PortWord, Source, Words, read_words};
+use ng_call::{Ended, Fault, ReadIn, ReadScript, cuts_of, is_stopped, read_files, read_made};
+use ng_core::Core;
+use ng_journal::kept::Journal;
+use ng_laws::printable::{
     inputs_are_fit, inputs_are_of_script, inputs_are_timed, left_is_writable, told_is_printable,
 };
-use ng_words::{PortWord, Source, Words, read_words};
-use ng_workers::Core;
+use ng_outside::{Files, Gate, Sink};
+use ng_plan::node::Node;
 use ngctl_script::Script;
+use ngctl_script::feed::inputs;
 use std::alloc::Global;
 use std::sync::Wait;
 use std::thread::Threads;
@@ -63,20 +58,6 @@ fn refused(alloc: Global, fault: Fault) -> Ended
         journal: Journal::new(alloc),
         fault: Some(fault),
     }
-}
-
-/// The places where captures were cut, in bytes, in order; `None` for those that were whole.
-///
-/// # Errors
-/// `NoMemory` where memory ran out, and for nothing else.
-pub fn cuts_of(alloc: Global, captures: &[Capture]) -> Result<Vec<Option<u64>>, NoMemory>
-    ensures { IfOk result (λ cuts. cuts.items ≡ map (λ capture. capture.cut) captures.now) }
-{
-    let mut cuts = Vec::new(alloc);
-    for capture in captures {
-        cuts.push(capture.cut)?;
-    }
-    Ok(cuts)
 }
 
 // What is known of the inputs of a script.

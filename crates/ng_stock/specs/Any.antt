@@ -1,13 +1,13 @@
 -- The state of a node of any type.
 use Rattle.ng_machine.specs.State.{State}
-use Rattle.ng_simple_types.specs.State.{hub_state, hole_state, echo_state, split_state}
-use Rattle.ng_tee_type.specs.State.{tee_state}
-use Rattle.ng_one2many_type.specs.Node.{one2many_state}
-use Rattle.ng_bridge_type.specs.Node.{bridge_state}
-use Rattle.ng_vlan_type.specs.State.{vlan_state}
-use Rattle.ng_patch_type.specs.State.{patch_state}
-use Rattle.ng_bpf_type.specs.State.{bpf_state}
-use Rattle.ng_edge_types.specs.State.{ether_state, socket_state}
+use Rattle.ng_plain_types.specs.simple.State.{hub_state, hole_state, echo_state, split_state}
+use Rattle.ng_plain_types.specs.tee.State.{tee_state}
+use Rattle.ng_switch_types.specs.one2many.Node.{one2many_state}
+use Rattle.ng_switch_types.specs.bridge.Node.{bridge_state}
+use Rattle.ng_switch_types.specs.vlan.State.{vlan_state}
+use Rattle.ng_filter_types.specs.patch.State.{patch_state}
+use Rattle.ng_filter_types.specs.bpf.State.{bpf_state}
+use Rattle.ng_plain_types.specs.edge.State.{ether_state, socket_state}
 use Rattle.ng_filter_types.specs.State.{etf_state, macset_state}
 use Rattle.ng_stock.specs.declared.any_node.TypedNode.{TypedNode}
 use Rattle.ng_stock.specs.declared.any_node.TypedNode.TheVariants.{Hub, Hole, Echo, Tee, Split, One2many, Bridge, Vlan, Patch, Bpf, Ether, Socket, Etf, Macset}

@@ -6,15 +6,15 @@ ghost use Rattle.ng_stock.specs.Stocked.{stocked};
 
 use crate::any_node::{AnyNode, TypedNode};
 use ng_base::{Kind, NoMemory};
-use ng_bpf_type::blank_bpf;
-use ng_bridge_type::blank_bridge;
-use ng_edge_types::{blank_ether, blank_socket};
+use ng_filter_types::bpf::blank_bpf;
+use ng_filter_types::patch::blank_patch;
 use ng_filter_types::{blank_etf, blank_macset};
-use ng_one2many_type::blank_one2many;
-use ng_patch_type::blank_patch;
-use ng_simple_types::{blank_echo, blank_hole, blank_hub, blank_split};
-use ng_tee_type::blank_tee;
-use ng_vlan_type::blank_vlan;
+use ng_plain_types::edge::{blank_ether, blank_socket};
+use ng_plain_types::simple::{blank_echo, blank_hole, blank_hub, blank_split};
+use ng_plain_types::tee::blank_tee;
+use ng_switch_types::bridge::blank_bridge;
+use ng_switch_types::one2many::blank_one2many;
+use ng_switch_types::vlan::blank_vlan;
 use std::alloc::Global;
 
 // A run has at most 64 ports.

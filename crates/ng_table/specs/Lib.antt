@@ -1,3 +1,4 @@
+pub mod reading
 pub mod Message
 pub mod Cookie
 pub mod Generic

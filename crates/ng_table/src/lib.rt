@@ -1,11 +1,12 @@
-//! The table of control messages: for each type of node, and for all nodes, the messages that they know, with
-//! their names, their numbers, and what their arguments and answers are made of.
+//! The table of control messages: the messages that each type of node knows and those that all know, with their names,
+//! numbers, arguments and answers; and how a message is read by its name.
 #![tactic(auto)]
 
 mod cookie;
 mod find;
 mod laws;
 mod macros;
+pub mod reading;
 mod row;
 mod rows;
 

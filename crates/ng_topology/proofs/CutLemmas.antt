@@ -8,9 +8,9 @@ use Rattle.ng_machine.specs.declared.hook.Hook.{Hook}
 use Rattle.ng_machine.specs.declared.plan.Plan.{Plan}
 use Rattle.ng_machine.specs.State.{State, cut_hook, kept_without_hooks, kind_of}
 use Rattle.ng_machine.proofs.Owed.{cut_all_kind}
-use Rattle.ng_hooks.specs.Hooks.{NamesDiffer}
+use Rattle.ng_topology.specs.hooks.Hooks.{NamesDiffer}
 use Rattle.ng_topology.specs.NodeEntry.{IsConsistent, without_all}
-use Rattle.ng_hooks.proofs.HookLemmas.{lacks_filter, own_name}
+use Rattle.ng_topology.proofs.hooks.HookLemmas.{lacks_filter, own_name}
 use Rattle.ng_topology.proofs.NodeLemmas.{names_filter}
 
 -- the box has the rest of the hooks, and comes to the same once those are cut

@@ -7,3 +7,4 @@ pub mod WalkLemmas
 pub mod WorldLemmas
 pub mod SoundLemmas
 pub mod CutLemmas
+pub mod Sendable

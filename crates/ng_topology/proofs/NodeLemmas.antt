@@ -18,7 +18,7 @@ use Rattle.ng_machine.specs.State.{State, KindState, HubState, HoleState, EchoSt
 use Rattle.ng_machine.specs.Counters.{Count}
 use Rattle.ng_machine.specs.Case.{absorb}
 use Rattle.ng_machine.proofs.Owed.{made_kind, cut_kind, absorb_way}
-use Rattle.ng_hooks.specs.Hooks.{without_named, is_linked}
+use Rattle.ng_topology.specs.hooks.Hooks.{without_named, is_linked}
 use Rattle.ng_topology.specs.NodeEntry.{IsConsistent, AcceptsHook}
 use Rattle.ng_topology.specs.Topology.{Topology, MayGetHook}
 

@@ -14,7 +14,7 @@ use Rattle.ng_machine.specs.World.{NodeRecord, node_in, with_hook, without_hook,
 use Rattle.ng_topology.specs.NodeEntry.{NodeEntry, with_node}
 use Rattle.ng_topology.specs.NodePlaces.{NodePlaces, places_as}
 use Rattle.ng_topology.specs.Topology.{node_of, home_of, change_at, linked_hook_at}
-use Rattle.ng_hooks.proofs.HookLemmas.{own_name}
+use Rattle.ng_topology.proofs.hooks.HookLemmas.{own_name}
 
 pub node_at : (entries : List (Option NodeEntry)) (i : ℕ) → get_or (map node_of entries) i None ≡ node_of (get_or entries i None)
 node_at entries i = get_or-map node_of entries i None

@@ -1,3 +1,4 @@
+pub mod hooks
 pub mod NodeEntry
 pub mod FirstOfKind
 pub mod Topology

@@ -7,15 +7,15 @@ ghost use Rattle.ng_machine.specs.Case.{absorb};
 ghost use Rattle.ng_machine.specs.Rules.{may_of};
 ghost use Rattle.ng_machine.specs.State.{State, kind_of, blank_of, way_of};
 ghost use Rattle.ng_machine.specs.World.{is_named, linked_hook, kind_at, state_of, has_hook, hook_of, with_hook, without_hook, without_hooks, with_changed_hook, settle_hook, bind_to, blank_node};
-ghost use Rattle.ng_hooks.specs.Hooks.{NamesDiffer};
+ghost use Rattle.ng_topology.specs.hooks.Hooks.{NamesDiffer};
 ghost use Rattle.ng_topology.specs.NodeEntry.{AcceptsHook, entry_as, with_node, without_all};
 ghost use Rattle.ng_topology.specs.Topology.{FitsNode, with_kept};
 
+use crate::hooks::Hooks;
 use ng_base::{Errno, Kind, LinkId, Name, NoMemory};
-use ng_hooks::Hooks;
 use ng_machine::{Counts, End, Hook};
-use ng_node::Node;
 use ng_plan::Plan;
+use ng_plan::node::Node;
 use std::alloc::Global;
 use std::marker::Model;
 use std::snapshot::Snapshot;
@@ -227,7 +227,7 @@ impl<B: Node> Entry<B> {
     ///
     /// # Errors
     /// `NoMemory` where memory ran out, and for nothing else; the node is then as before.
-    #[tactic(auto, using(ng_hooks::proofs::HookLemmas::added_removed, crate::proofs::NodeLemmas::lacks_hook, crate::proofs::NodeLemmas::lacks_names, crate::proofs::NodeLemmas::takes_may, crate::proofs::NodeLemmas::names_push))]
+    #[tactic(auto, using(crate::proofs::hooks::HookLemmas::added_removed, crate::proofs::NodeLemmas::lacks_hook, crate::proofs::NodeLemmas::lacks_names, crate::proofs::NodeLemmas::takes_may, crate::proofs::NodeLemmas::names_push))]
     pub fn add(&mut self, alloc: Global, hook: Hook) -> Result<(), NoMemory>
         requires home { self.old.home ≡ true }
         requires takes { AcceptsHook self.old.node hook.name }

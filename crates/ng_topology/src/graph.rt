@@ -12,14 +12,14 @@ ghost use Rattle.ng_topology.specs.Topology.{empty_graph, linked_hook_at, name_o
 ghost use Rattle.ng_machine.specs.Walk.{if_there, head_at, peer_of, follow, walk};
 ghost use Rattle.ng_topology.specs.declared.graph.MakeFault.TheVariants.{Used};
 
+use crate::hooks::Hooks;
 use crate::names::{enter_name, forget_name};
 use crate::{Entry, Places, Stock};
 use ng_base::{Errno, Kind, LinkId, Name, NoMemory, NodeId};
-use ng_hooks::Hooks;
 use ng_machine::{Counts, End, Hook};
-use ng_node::Node;
 use ng_path::{Head, Path};
 use ng_plan::Plan;
+use ng_plan::node::Node;
 use std::alloc::Global;
 use std::collections::BTreeMap;
 use std::marker::Model;

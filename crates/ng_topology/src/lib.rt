@@ -1,8 +1,10 @@
-//! The graph of nodes: their hooks and links, the boxes of their types, at home or lent, and the blank boxes that are left.
+//! The graph of nodes: the hooks of each, found by their names, and their links; the boxes of their types, at home or lent;
+//! and the blank boxes that are left.
 #![tactic(auto)]
 
 mod entry;
 mod graph;
+pub mod hooks;
 mod laws;
 mod names;
 mod places;

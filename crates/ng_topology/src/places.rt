@@ -12,8 +12,8 @@ ghost use Rattle.ng_topology.specs.Topology.{FitsNode, change_at, linked_hook_at
 use crate::Entry;
 use ng_base::{LinkId, Name, NoMemory, NodeId};
 use ng_machine::{Counts, End, Hook};
-use ng_node::Node;
 use ng_plan::Plan;
+use ng_plan::node::Node;
 use std::alloc::Global;
 use std::marker::Model;
 use std::mem;

@@ -9,7 +9,7 @@ ghost use Rattle.ng_machine.specs.Stock.{has_kind, without_kind};
 ghost use Rattle.ng_topology.specs.FirstOfKind.{IsFirstOf};
 
 use ng_base::{Errno, Kind, Name, NoMemory};
-use ng_node::Node;
+use ng_plan::node::Node;
 use std::alloc::Global;
 use std::marker::Model;
 

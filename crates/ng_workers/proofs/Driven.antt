@@ -10,20 +10,20 @@ use Rattle.ng_machine.proofs.Counted.{times-append}
 use Rattle.ng_machine.specs.declared.input.Input.{Input}
 use Rattle.ng_machine.specs.Desk.{FirstDesk, SeatDesk}
 use Rattle.ng_machine.specs.State.{State}
-use Rattle.ng_world.specs.declared.handed.Work.{Work}
+use Rattle.ng_core_state.specs.declared.handed.Work.{Work}
 use Rattle.ng_machine.specs.Words.{first_refusal, times}
-use Rattle.ng_pool.proofs.Steps.{fed_fits}
-use Rattle.ng_pool.specs.Feeding.{IsFed, IsUnfed}
-use Rattle.ng_pool.specs.CoreStory.{CoreStory, story}
-use Rattle.ng_story.proofs.OfDesks.{feed_tells}
-use Rattle.ng_story.proofs.SoundStories.{so_far}
-use Rattle.ng_story.specs.Closing.{close_refusal, is_spent, refusal_below, stops}
-use Rattle.ng_story.specs.declared.unclosed.Unclosed.{Unclosed}
-use Rattle.ng_story.specs.declared.unclosed.Unclosed.TheVariants.{Pending, Unfed}
-use Rattle.ng_story.specs.DeskLaws.{closed_desk, fed_desk, stop_events}
-use Rattle.ng_story.specs.Desks.{story_desk}
-use Rattle.ng_story.specs.SoundStory.{IsSoundStory}
-use Rattle.ng_story.specs.Story.{AreFitFor, Story, world_of}
+use Rattle.ng_workers.proofs.pool.Steps.{fed_fits}
+use Rattle.ng_workers.specs.pool.Feeding.{IsFed, IsUnfed}
+use Rattle.ng_core.specs.CoreStory.{CoreStory, story}
+use Rattle.ng_machine.proofs.story.OfDesks.{feed_tells}
+use Rattle.ng_machine.proofs.story.SoundStories.{so_far}
+use Rattle.ng_machine.specs.story.Closing.{close_refusal, is_spent, refusal_below, stops}
+use Rattle.ng_machine.specs.declared.story.unclosed.Unclosed.{Unclosed}
+use Rattle.ng_machine.specs.declared.story.unclosed.Unclosed.TheVariants.{Pending, Unfed}
+use Rattle.ng_machine.specs.story.DeskLaws.{closed_desk, fed_desk, stop_events}
+use Rattle.ng_machine.specs.story.Desks.{story_desk}
+use Rattle.ng_machine.specs.story.SoundStory.{IsSoundStory}
+use Rattle.ng_machine.specs.story.Story.{AreFitFor, Story, world_of}
 use Rattle.ng_workers.specs.Desks.{Gains, Grew, MayBack, core_desk, is_feed}
 use Rattle.ng_turn.specs.declared.pass.Pass.{Pass}
 use Rattle.ng_workers.specs.declared.next.Next.{Next}

@@ -11,9 +11,9 @@ use Rattle.ng_machine.specs.declared.input.Input.{Input}
 use Rattle.ng_machine.specs.Desk.{FirstDesk, SeatDesk, own_events}
 use Rattle.ng_machine.specs.Laws.{Setting}
 use Rattle.ng_machine.specs.Words.{times}
-use Rattle.ng_reading.specs.Reading.{given}
-use Rattle.ng_pool.specs.CoreStory.{CoreStory, setting_of, story}
-use Rattle.ng_story.specs.Story.{Story, has_ended, has_failed, with_more}
+use Rattle.ng_table.specs.reading.Reading.{given}
+use Rattle.ng_core.specs.CoreStory.{CoreStory, setting_of, story}
+use Rattle.ng_machine.specs.story.Story.{Story, has_ended, has_failed, with_more}
 use Rattle.ng_workers.specs.Desks.{Gains, Grew, IsOver, MayBack, core_desk, is_feed}
 use Rattle.ng_workers.specs.Driving.{Closes, Drives, DroveOn, GivesUp}
 use Rattle.ng_workers.specs.Ending.{KeptAtIt, RanToEnd}

@@ -5,7 +5,7 @@ use Rattle.ng_base.specs.declared.event.Event.{Event}
 use Rattle.ng_machine.proofs.Counted.{times-append}
 use Rattle.ng_machine.specs.Desk.{Job, SeatDesk}
 use Rattle.ng_machine.specs.Words.{Every, times}
-use Rattle.ng_story.specs.Desks.{desk_with}
+use Rattle.ng_machine.specs.story.Desks.{desk_with}
 use Rattle.ng_workers.specs.Desks.{Gains, Grew, MayBack, is_back, is_feed}
 
 none_backs : (b : Bool) → MayBack b []

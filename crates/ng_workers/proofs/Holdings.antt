@@ -1,9 +1,9 @@
 -- A holding of the core, by what the turn and the core's calls say of it.
 use Rattle.std.proofs.Common.{◌≡◌, ◌≢◌, ◌<◌, ℕ, refl, sym, ap, ◌∙◌, subst}
 use Rattle.ng_machine.specs.Desk.{SeatDesk}
-use Rattle.ng_pool.specs.CoreStory.{CoreStory, story}
-use Rattle.ng_story.specs.Desks.{Others, story_desk}
-use Rattle.ng_story.specs.Story.{Story}
+use Rattle.ng_core.specs.CoreStory.{CoreStory, story}
+use Rattle.ng_machine.specs.story.Desks.{Others, story_desk}
+use Rattle.ng_machine.specs.story.Story.{Story}
 use Rattle.ng_workers.specs.Desks.{core_desk}
 
 pub both_others : (seat : ℕ) (a b c : Story) → Others seat a b → Others seat b c → Others seat a c

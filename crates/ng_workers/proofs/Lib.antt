@@ -1,4 +1,3 @@
-pub mod Sent
 pub mod Growing
 pub mod Driven
 pub mod Holdings
@@ -6,4 +5,3 @@ pub mod Rows
 pub mod OwnEvents
 pub mod EndedRuns
 pub mod WholeRuns
-pub use Rattle.ng_pool.proofs.PortCounts

@@ -2,11 +2,11 @@
 use Rattle.std.proofs.Common.{◌≡◌, ◌<◌, ◌∙◌, ℕ, zero, suc, List, [], ◌∷◌, ◌++◌, length, false, refl, sym, ap, subst, arith}
 use Rattle.ng_machine.specs.declared.input.Input.{Input}
 use Rattle.ng_machine.specs.Desk.{SeatDesk}
-use Rattle.ng_pool.proofs.Idle.{all_idle}
-use Rattle.ng_pool.proofs.OpenStories.{open_story}
-use Rattle.ng_pool.specs.CoreStory.{CoreStory, story}
-use Rattle.ng_story.specs.Desks.{no_desk}
-use Rattle.ng_story.specs.Story.{AreFitFor, has_ended, run_state_of}
+use Rattle.ng_workers.proofs.pool.Idle.{all_idle}
+use Rattle.ng_core.proofs.OpenStories.{open_story}
+use Rattle.ng_core.specs.CoreStory.{CoreStory, story}
+use Rattle.ng_machine.specs.story.Desks.{no_desk}
+use Rattle.ng_machine.specs.story.Story.{AreFitFor, has_ended, run_state_of}
 use Rattle.ng_turn.specs.declared.pass.Pass.{Pass}
 use Rattle.ng_turn.specs.declared.turn.Turn.{Turn}
 use Rattle.ng_turn.specs.Words.{Begins, EachPass, desk_of, seat_of, seats_of}

@@ -15,8 +15,8 @@ use Rattle.ng_machine.specs.Orderly.{IsQuiet, IsWhole, MayFeedNext, OrderlyFrom}
 use Rattle.ng_machine.specs.Run.{RunState, after, after_all, beginning}
 use Rattle.ng_machine.specs.Words.{times}
 use Rattle.ng_machine.specs.World.{World}
-use Rattle.ng_story.specs.SoundStory.{IsSoundStory}
-use Rattle.ng_story.specs.Story.{Story, begun, follow_if, run_state_of, with_more}
+use Rattle.ng_machine.specs.story.SoundStory.{IsSoundStory}
+use Rattle.ng_machine.specs.story.Story.{Story, begun, follow_if, run_state_of, with_more}
 use Rattle.ng_workers.specs.Desks.{is_feed}
 use Rattle.ng_workers.specs.Ending.{RanIsWhole, RanToEnd}
 

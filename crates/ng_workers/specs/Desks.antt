@@ -4,8 +4,8 @@ use Rattle.ng_base.specs.declared.event.Event.{Event}
 use Rattle.ng_base.specs.declared.event.Event.TheVariants.{Feed, Take, Back, Apply, Stop}
 use Rattle.ng_machine.specs.Desk.{SeatDesk, Idle}
 use Rattle.ng_machine.specs.Words.{Every, times}
-use Rattle.ng_pool.specs.CoreStory.{CoreStory, story}
-use Rattle.ng_story.specs.Desks.{story_desk}
+use Rattle.ng_core.specs.CoreStory.{CoreStory, story}
+use Rattle.ng_machine.specs.story.Desks.{story_desk}
 
 -- the desk that the core has for the seat
 abbrev pub core_desk : CoreStory → ℕ → SeatDesk

@@ -7,7 +7,7 @@ use Rattle.ng_machine.specs.Desk.{FirstDesk, SeatDesk}
 use Rattle.ng_machine.specs.Laws.{Setting}
 use Rattle.ng_machine.specs.LowRun.{IsModest}
 use Rattle.ng_machine.specs.Words.{times}
-use Rattle.ng_reading.specs.Reading.{given}
+use Rattle.ng_table.specs.reading.Reading.{given}
 use Rattle.ng_workers.specs.Desks.{Gains, is_feed}
 
 -- what the run was made of, and the inputs that were fed with these behind

@@ -6,8 +6,8 @@ use Rattle.ng_machine.specs.Desk.{own_events}
 use Rattle.ng_machine.specs.Laws.{Setting, IsJournal, run_state_after, start}
 use Rattle.ng_machine.specs.Orderly.{IsWhole}
 use Rattle.ng_machine.specs.Words.{Every, times}
-use Rattle.ng_story.specs.SoundStory.{IsSoundStory}
-use Rattle.ng_story.specs.Story.{Story, begun, has_failed, run_state_of, with_more}
+use Rattle.ng_machine.specs.story.SoundStory.{IsSoundStory}
+use Rattle.ng_machine.specs.story.Story.{Story, begun, has_failed, run_state_of, with_more}
 use Rattle.ng_workers.specs.Desks.{is_back, is_feed}
 
 -- a seat's own events are those that it had, and more, none of them a Back

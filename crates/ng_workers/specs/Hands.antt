@@ -3,11 +3,11 @@ use Rattle.std.specs.Prelude.{◌≡◌, false, List, Option, Some, None}
 use Rattle.ng_machine.specs.declared.input.Input.{Input}
 use Rattle.ng_machine.specs.Desk.{SeatDesk, Idle}
 use Rattle.ng_machine.specs.State.{State}
-use Rattle.ng_pool.specs.Workable.{IsWorkable}
-use Rattle.ng_story.specs.Work.{IsDone}
-use Rattle.ng_world.specs.declared.handed.Done.{Done}
-use Rattle.ng_world.specs.declared.handed.Work.{Work}
-use Rattle.ng_world.specs.Handed.{handed_with, job_with}
+use Rattle.ng_workers.specs.pool.Workable.{IsWorkable}
+use Rattle.ng_machine.specs.story.Work.{IsDone}
+use Rattle.ng_core_state.specs.declared.handed.Done.{Done}
+use Rattle.ng_core_state.specs.declared.handed.Work.{Work}
+use Rattle.ng_core_state.specs.Handed.{handed_with, job_with}
 use Rattle.ng_workers.specs.declared.next.Next.{Next}
 use Rattle.ng_workers.specs.declared.next.Next.TheVariants as next
 use Rattle.ng_workers.specs.Desks.{IsOver}

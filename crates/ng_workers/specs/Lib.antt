@@ -1,9 +1,6 @@
+pub mod pool
 pub mod Desks
 pub mod Driving
 pub mod Passes
 pub mod Hands
 pub mod Ending
-pub use Rattle.ng_pool.specs.Calls
-pub use Rattle.ng_pool.specs.CoreStory
-pub use Rattle.ng_pool.specs.Beginning
-pub use Rattle.ng_pool.specs.Plainly

@@ -3,12 +3,12 @@ use Rattle.std.specs.Prelude.{◌≡◌, ◌⊎◌, ℕ, zero, suc, false, List,
 use Rattle.ng_machine.specs.declared.input.Input.{Input}
 use Rattle.ng_machine.specs.Desk.{SeatDesk}
 use Rattle.ng_machine.specs.State.{State}
-use Rattle.ng_pool.specs.CoreStory.{CoreStory}
-use Rattle.ng_story.specs.Desks.{no_desk}
+use Rattle.ng_core.specs.CoreStory.{CoreStory}
+use Rattle.ng_machine.specs.story.Desks.{no_desk}
 use Rattle.ng_turn.specs.declared.pass.Pass.{Pass}
 use Rattle.ng_turn.specs.declared.turn.Turn.{Turn}
 use Rattle.ng_turn.specs.Words.{EachPass, IsPass, desk_of, seat_of}
-use Rattle.ng_world.specs.declared.handed.Done.{Done}
+use Rattle.ng_core_state.specs.declared.handed.Done.{Done}
 use Rattle.ng_workers.specs.declared.step.Step.{Step}
 use Rattle.ng_workers.specs.declared.step.Step.TheVariants.{Goes, Ends}
 use Rattle.ng_workers.specs.Desks.{Grew, IsOver, IsReady, core_desk}

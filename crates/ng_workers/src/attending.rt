@@ -1,17 +1,18 @@
 // The work on what a seat took, while the core is put back.
 ghost use Rattle.std.specs.Prelude.{◌≡◌, ◌<◌, false, true};
-ghost use Rattle.ng_pool.specs.Workable.{IsWorkable};
+ghost use Rattle.ng_workers.specs.pool.Workable.{IsWorkable};
 ghost use Rattle.ng_turn.specs.Words.{seat_of};
 ghost use Rattle.ng_workers.specs.Passes.{Grows, IfEnds, IsOf, Leaves, desk, pass_of};
-ghost use Rattle.ng_world.specs.Handed.{job_with};
+ghost use Rattle.ng_core_state.specs.Handed.{job_with};
 
 use crate::holding::give_back;
+use crate::pool::work;
 use crate::step::Step;
-use ng_node::Node;
+use ng_core::Core;
+use ng_core_state::{Done, Work};
 use ng_outside::Gate;
-use ng_pool::{Core, work};
+use ng_plan::node::Node;
 use ng_turn::{Pass, Turn};
-use ng_world::{Done, Work};
 use std::alloc::Global;
 use std::sync::Wait;
 

@@ -9,13 +9,14 @@ ghost use Rattle.ng_workers.specs.Passes.{DroveStep, IsOf, Leaves, desk, pass_of
 use crate::attending::attend;
 use crate::feeding::lead;
 use crate::next::Next;
+use crate::pool::Unfed;
 use crate::step::Step;
+use ng_core::Core;
+use ng_core_state::{Done, Work};
 use ng_machine::Input;
-use ng_node::Node;
 use ng_outside::Gate;
-use ng_pool::{Core, Unfed};
+use ng_plan::node::Node;
 use ng_turn::{Backoff, Pass, Turn};
-use ng_world::{Done, Work};
 use std::alloc::Global;
 use std::sync::Wait;
 

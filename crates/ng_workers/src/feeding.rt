@@ -2,20 +2,21 @@
 ghost use Rattle.std.specs.Prelude.{◌≡◌, ◌<◌, List, false, true, length, None, IfOk, OnOk, OnErr};
 ghost use Rattle.ng_machine.specs.declared.input.Input.{Input as TheInput};
 ghost use Rattle.ng_machine.specs.Desk.{Idle};
-ghost use Rattle.ng_pool.specs.Feeding.{IsUnfed};
-ghost use Rattle.ng_pool.specs.CoreStory.{story};
-ghost use Rattle.ng_story.specs.Desks.{Others};
-ghost use Rattle.ng_story.specs.Story.{has_ended};
+ghost use Rattle.ng_workers.specs.pool.Feeding.{IsUnfed};
+ghost use Rattle.ng_core.specs.CoreStory.{story};
+ghost use Rattle.ng_machine.specs.story.Desks.{Others};
+ghost use Rattle.ng_machine.specs.story.Story.{has_ended};
 ghost use Rattle.ng_workers.specs.Desks.{core_desk};
 ghost use Rattle.ng_workers.specs.Driving.{Drives, IsOpenFor};
 ghost use Rattle.ng_workers.specs.Hands.{Brings, Drove, Takes};
 
 use crate::holding::{Leftover, hand_in, quit, take_next};
 use crate::next::Next;
+use crate::pool::Unfed;
 use ng_base::NoMemory;
-use ng_node::Node;
-use ng_pool::{Core, Unfed};
-use ng_world::{Done, Work};
+use ng_core::Core;
+use ng_core_state::{Done, Work};
+use ng_plan::node::Node;
 use std::alloc::Global;
 
 // Feeds the next input, where it may be fed now; false where it may not.

@@ -2,19 +2,20 @@
 ghost use Rattle.std.specs.Prelude.{◌≡◌, ◌<◌, true, false, OnOk, OnErr, IfSome, IfNone, Some};
 ghost use Rattle.ng_base.specs.declared.event.Event.TheVariants.{Back};
 ghost use Rattle.ng_machine.specs.Desk.{Idle};
-ghost use Rattle.ng_pool.specs.Workable.{IsWorkable};
-ghost use Rattle.ng_pool.specs.CoreStory.{story};
-ghost use Rattle.ng_story.specs.Desks.{Others, story_job};
-ghost use Rattle.ng_story.specs.Story.{given_up_by, has_ended, with_event};
-ghost use Rattle.ng_world.specs.Handed.{item_of, job_with};
+ghost use Rattle.ng_workers.specs.pool.Workable.{IsWorkable};
+ghost use Rattle.ng_core.specs.CoreStory.{story};
+ghost use Rattle.ng_machine.specs.story.Desks.{Others, story_job};
+ghost use Rattle.ng_machine.specs.story.Story.{given_up_by, has_ended, with_event};
+ghost use Rattle.ng_core_state.specs.Handed.{item_of, job_with};
 ghost use Rattle.ng_workers.specs.Desks.{Grew, core_desk};
 ghost use Rattle.ng_workers.specs.Hands.{Brings, IfEnd, IfNothing, Takes};
 
 use crate::next::Next;
+use crate::pool::jobs_are_workable;
 use ng_base::NoMemory;
-use ng_node::Node;
-use ng_pool::{Core, jobs_are_workable};
-use ng_world::{Done, Work};
+use ng_core::Core;
+use ng_core_state::{Done, Work};
+use ng_plan::node::Node;
 use std::alloc::Global;
 
 /// What a seat handed in leaves outside: the box of a node that went, or what wasn't applied. It is dropped once the core is

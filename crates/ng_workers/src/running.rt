@@ -2,8 +2,8 @@
 ghost use Rattle.std.specs.Prelude.{◌≡◌, ◌<◌, [], false, vec_len, IfOk};
 ghost use Rattle.std.specs.Thread.{IsSend, IsSync};
 ghost use Rattle.std.specs.Vec.{vec_capacity};
-ghost use Rattle.ng_pool.specs.CoreStory.{CoreStory, story};
-ghost use Rattle.ng_story.specs.Story.{AreFitFor, has_ended, run_state_of};
+ghost use Rattle.ng_core.specs.CoreStory.{CoreStory, story};
+ghost use Rattle.ng_machine.specs.story.Story.{AreFitFor, has_ended, run_state_of};
 ghost use Rattle.ng_turn.specs.Words.{seat_of};
 ghost use Rattle.ng_workers.specs.Desks.{IsOver, IsReady};
 ghost use Rattle.ng_workers.specs.Ending.{RanToEnd};
@@ -12,10 +12,10 @@ ghost use Rattle.ng_workers.specs.Passes.{AreBackFrom, AreDesksOf, AreReady, Gro
 use crate::driving::drive;
 use crate::working::worker;
 use ng_base::NoMemory;
+use ng_core::Core;
 use ng_machine::Input;
-use ng_node::Node;
 use ng_outside::Gate;
-use ng_pool::Core;
+use ng_plan::node::Node;
 use ng_turn::{Pass, Turn};
 use std::alloc::Global;
 use std::sync::Wait;

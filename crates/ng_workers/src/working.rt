@@ -9,11 +9,11 @@ use crate::attending::attend;
 use crate::holding::serve;
 use crate::next::Next;
 use crate::step::Step;
-use ng_node::Node;
+use ng_core::Core;
+use ng_core_state::{Done, Work};
 use ng_outside::Gate;
-use ng_pool::Core;
+use ng_plan::node::Node;
 use ng_turn::{Backoff, Pass, Turn};
-use ng_world::{Done, Work};
 use std::alloc::Global;
 use std::sync::Wait;
 

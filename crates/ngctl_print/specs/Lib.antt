@@ -1,3 +1,5 @@
+pub mod whole
+pub mod listing
 pub mod Dump
 pub mod Text
 pub mod Prints

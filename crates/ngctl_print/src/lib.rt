@@ -1,13 +1,15 @@
-//! The parts of the text of a run that need no script: a command's line, a refusal, a packet at the socket, the summary
-//! and the line of a port, put into a sink line by line.
+//! The text of a run, put into a sink line by line: a command's line, a refusal, a packet at the socket, the summary and the
+//! line of a port; the answers of `list`, `show` and `types`; and the captures that leave.
 #![tactic(auto)]
 
 mod dump;
 mod line;
+pub mod listing;
 mod port;
 mod stop;
 mod summary;
 mod told;
+pub mod whole;
 
 pub use line::put_line;
 pub use port::print_port;

@@ -1,3 +1,5 @@
+pub mod feed
+pub mod make
 pub mod Lines
 pub mod Words
 pub mod Commands

@@ -1,11 +1,14 @@
-//! Scripts of the commands of ngctl(8), with marks that say when a command is fed.
+//! Scripts of the commands of ngctl(8), with marks that say when a command is fed; the list of inputs of a script and of
+//! captures; and a workload that is made from a number.
 #![tactic(auto)]
 
 mod bytes;
 mod fault;
+pub mod feed;
 mod forms;
 mod laws;
 mod lines;
+pub mod make;
 mod marks;
 mod read;
 mod reading;

@@ -2,14 +2,14 @@
 use Rattle.std.specs.Prelude.{◌≡◌, ℕ, List, Option}
 use Rattle.ng_base.specs.declared.event.Event.{Event}
 use Rattle.ng_base.specs.declared.kind.Kind.{Kind}
-use Rattle.ng_ends.specs.Outside.{Outside}
+use Rattle.ng_call.specs.ending.Outside.{Outside}
 use Rattle.ng_machine.specs.Spread.{Spread}
-use Rattle.ng_words.specs.declared.words.Words.{Words}
-use Rattle.ng_words.specs.declared.words.ReplayWords.{ReplayWords}
-use Rattle.ng_words.specs.declared.words.ForecastWords.{ForecastWords}
-use Rattle.ng_run.specs.declared.ended.Fault.{Fault}
-use Rattle.ng_run.specs.Ends as run
-use Rattle.ng_run.specs.Exactly as run_exactly
+use Rattle.ng_args.specs.declared.words.Words.{Words}
+use Rattle.ng_args.specs.declared.words.ReplayWords.{ReplayWords}
+use Rattle.ng_args.specs.declared.words.ForecastWords.{ForecastWords}
+use Rattle.ng_call.specs.declared.ended.Fault.{Fault}
+use Rattle.ng_call.specs.Ends as run
+use Rattle.ng_call.specs.Exactly as run_exactly
 use Rattle.ng_replay.specs.declared.ended.ReplayFault.{ReplayFault}
 use Rattle.ng_replay.specs.Ends as replay
 use Rattle.ng_replay.specs.Exactly as replay_exactly

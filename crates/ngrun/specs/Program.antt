@@ -3,11 +3,11 @@ use Rattle.std.specs.Prelude.{◌≡◌, ◌⊎◌, ℕ, List, Option, Some, Non
 use Rattle.std.specs.Io.KnownBytes.{Appends}
 use Rattle.ng_outside.specs.Count.{Rose}
 use Rattle.ng_outside.specs.Write.{AppendsPrefix}
-use Rattle.ng_ends.specs.Outside.{Outside, Same}
-use Rattle.ng_run.specs.declared.ended.Fault.{Fault}
-use Rattle.ng_run.specs.declared.ended.Fault.TheVariants.{NoMemory}
-use Rattle.ng_run.specs.Ends.{fault_status}
-use Rattle.ng_run.specs.Line.{fault_line}
+use Rattle.ng_call.specs.ending.Outside.{Outside, Same}
+use Rattle.ng_call.specs.declared.ended.Fault.{Fault}
+use Rattle.ng_call.specs.declared.ended.Fault.TheVariants.{NoMemory}
+use Rattle.ng_call.specs.Ends.{fault_status}
+use Rattle.ng_call.specs.Line.{fault_line}
 use Rattle.ng_stock.specs.Stocked.{stocked}
 use Rattle.ngrun.specs.declared.top.Ran.{Ran}
 use Rattle.ngrun.specs.Top.{IsTop, line_of, status_of}

@@ -2,11 +2,11 @@
 use Rattle.std.specs.Prelude.{ℕ, Bool, true, false, List, [], ◌∷◌, codes, drop, Option, option_map}
 use Rattle.std.specs.Str.{bytes_eq}
 use Rattle.ng_base.specs.declared.kind.Kind.{Kind}
-use Rattle.ng_ends.specs.Outside.{Outside}
-use Rattle.ng_words.specs.Run.{words_of}
-use Rattle.ng_words.specs.Replay.{replay_words_of}
-use Rattle.ng_words.specs.Forecast.{forecast_words_of}
-use Rattle.ng_run.specs.Line.{fault_line}
+use Rattle.ng_call.specs.ending.Outside.{Outside}
+use Rattle.ng_args.specs.Run.{words_of}
+use Rattle.ng_args.specs.Replay.{replay_words_of}
+use Rattle.ng_args.specs.Forecast.{forecast_words_of}
+use Rattle.ng_call.specs.Line.{fault_line}
 use Rattle.ng_replay.specs.Line.{replay_line}
 use Rattle.ng_forecast.specs.Line.{fault_line as forecast_line}
 use Rattle.ngrun.specs.declared.top.Ran.{Ran}

@@ -15,8 +15,6 @@
 mod program;
 mod stocked;
 mod tell;
-#[cfg(test)]
-mod tests;
 mod top;
 mod words;
 

@@ -1,6 +1,6 @@
 // The whole program over any files and sinks.
 ghost use Rattle.std.specs.Prelude.{◌≡◌, map, string_bytes};
-ghost use Rattle.ng_run.specs.Parts.{storing, outside, counting};
+ghost use Rattle.ng_call.specs.Parts.{storing, outside, counting};
 ghost use Rattle.ngrun.specs.Program.{IsProgram};
 ghost use Rattle.ngrun.specs.Top.{status_of};
 
@@ -26,7 +26,7 @@ fn status_of(ran: &Ran) -> u8
 }
 
 /// Does what the words ask for, with its text into `out` and the line of a fault into `errors`, and gives the exit status.
-/// The statuses are those of [`ng_run::Ended`], [`ng_replay::Replayed`] and [`ng_forecast::Forecast`]. `rt` starts the threads of the workers of a run, and each item
+/// The statuses are those of [`ng_call::Ended`], [`ng_replay::Replayed`] and [`ng_forecast::Forecast`]. `rt` starts the threads of the workers of a run, and each item
 /// that these take passes `gate`.
 pub fn program<R: Threads + Wait + Sync, F: Files, O: Sink, E: Sink, G: Gate + Sync>(
     rt: &R,

@@ -1,7 +1,7 @@
 // The top call with the blank nodes of the program.
 ghost use Rattle.std.specs.Prelude.{map, string_bytes, IfOk, OnErr};
-ghost use Rattle.ng_ends.specs.Outside.{Same};
-ghost use Rattle.ng_run.specs.Parts.{storing, outside, counting};
+ghost use Rattle.ng_call.specs.ending.Outside.{Same};
+ghost use Rattle.ng_call.specs.Parts.{storing, outside, counting};
 ghost use Rattle.ng_stock.specs.Stocked.{stocked};
 ghost use Rattle.ngrun.specs.Top.{IsTop};
 

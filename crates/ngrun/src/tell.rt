@@ -2,19 +2,19 @@
 ghost use Rattle.std.specs.Prelude.{◌≡◌, ℕ, List, map, string_bytes, IfOk, OnErr};
 ghost use Rattle.ng_forecast.specs.Line as forecast;
 ghost use Rattle.ng_replay.specs.Line.{replay_line};
-ghost use Rattle.ng_run.specs.Line.{fault_line};
-ghost use Rattle.ng_words.specs.Forecast.{forecast_words_of};
-ghost use Rattle.ng_words.specs.Replay.{replay_words_of};
-ghost use Rattle.ng_words.specs.Run.{words_of};
+ghost use Rattle.ng_call.specs.Line.{fault_line};
+ghost use Rattle.ng_args.specs.Forecast.{forecast_words_of};
+ghost use Rattle.ng_args.specs.Replay.{replay_words_of};
+ghost use Rattle.ng_args.specs.Run.{words_of};
 ghost use Rattle.ngrun.specs.Program.{Puts, Tells, TellsIf, memory_line};
 ghost use Rattle.ngrun.specs.Top.{line_of};
 
 use crate::top::{Ran, behind_first};
 use ng_base::NoMemory;
+use ng_call::{Fault, fault_line};
 use ng_forecast::{ForecastFault, forecast_fault_line};
 use ng_outside::{Sink, put_all};
 use ng_replay::{ReplayFault, replay_fault_line};
-use ng_run::{Fault, fault_line};
 use std::alloc::Global;
 
 /// What is told where memory ran out.

@@ -1,15 +1,16 @@
 // The top call: a run, a replay or a forecast, by the first word.
 ghost use Rattle.std.specs.Prelude.{◌≡◌, drop, map, string_bytes};
 ghost use Rattle.ng_machine.specs.State.{kind_of};
-ghost use Rattle.ng_run.specs.Parts.{storing, outside, counting};
-ghost use Rattle.ng_run.specs.Stocked.{IsStocked};
+ghost use Rattle.ng_call.specs.Parts.{storing, outside, counting};
+ghost use Rattle.ng_core.specs.Stocked.{IsStocked};
 ghost use Rattle.ng_stock.specs.Any.{any_state};
 ghost use Rattle.ngrun.specs.Top.{DidForecast, DidReplay, DidRun, IsTop, begins_with};
 
+use ng_call::Ended;
 use ng_forecast::{Forecast, ngforecast};
 use ng_outside::{Files, Gate, Sink};
 use ng_replay::{Replayed, ngreplay};
-use ng_run::{Ended, ngrun};
+use ng_run::ngrun;
 use ng_stock::AnyNode;
 use std::alloc::Global;
 use std::sync::Wait;

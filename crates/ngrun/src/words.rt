@@ -1,11 +1,11 @@
 // The words of the command line.
 ghost use Rattle.std.specs.Prelude.{◌≡◌, ◌≢◌, drop};
-ghost use Rattle.ng_run.specs.declared.ended.Fault.{Fault};
+ghost use Rattle.ng_call.specs.declared.ended.Fault.{Fault};
 ghost use Rattle.ngrun.specs.Program.{IsWordless};
 
 use crate::tell::{run_line, tell};
+use ng_call::Fault;
 use ng_outside::Sink;
-use ng_run::Fault;
 use std::alloc::Global;
 use std::io::ErrorKind;
 

@@ -1,5 +1,5 @@
 use Rattle.std.proofs.Common.{◌≡◌, ◌++◌, take, flat_map}
-use Rattle.ng_machine.specs.Etf.{etf_filter_bytes}
+use Rattle.ng_machine.specs.kinds.Etf.{etf_filter_bytes}
 use Rattle.ng_filter_types.proofs.filters.put_filters.Given as goal
 
 abbrev pub invariant-loop-filter : goal.invariant-loop-filter

@@ -1,5 +1,5 @@
 use Rattle.std.proofs.Common.{◌≡◌, ◌≤◌, ◌+◌, drop}
-use Rattle.ng_spread.specs.Weight.{weight}
+use Rattle.ng_forecast.specs.spread.Weight.{weight}
 use Rattle.ng_forecast.specs.Packets.{most_weight}
 use Rattle.ng_forecast.proofs.bag.weigh.Given as goal
 

@@ -1,5 +1,5 @@
 use Rattle.std.proofs.Common.{◌∙◌, sym, ap}
-use Rattle.ng_run.specs.Parts.{of_files}
+use Rattle.ng_call.specs.Parts.{of_files}
 use Rattle.ng_forecast.specs.Moving.{moving}
 use Rattle.ng_forecast.proofs.Reading.{script_stops, moves, ports_stop, is_read_in}
 use Rattle.ng_forecast.proofs.read.read_in.Goals as goal

@@ -1,5 +1,5 @@
 use Rattle.std.proofs.Common.{◌∙◌, map, ap}
-use Rattle.ng_feed.specs.Inputs.{Timed, inputs_of}
+use Rattle.ngctl_script.specs.feed.Inputs.{Timed, inputs_of}
 use Rattle.ng_forecast.specs.Arrivals.{packets_among}
 use Rattle.ng_forecast.proofs.Coming.{are_merged}
 use Rattle.ng_forecast.proofs.stand.arrivals_of.Goals as goal

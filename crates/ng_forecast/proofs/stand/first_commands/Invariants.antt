@@ -1,5 +1,5 @@
 use Rattle.std.proofs.Common.{◌≡◌}
-use Rattle.ng_feed.specs.Inputs.{commands_that, is_first}
+use Rattle.ngctl_script.specs.feed.Inputs.{commands_that, is_first}
 use Rattle.ng_forecast.proofs.stand.first_commands.Given as goal
 
 abbrev pub invariant-loop-when : goal.invariant-loop-when

@@ -1,21 +1,21 @@
 use Rattle.std.proofs.Common.{◌≡◌, ◌∙◌, ℕ, ◌+◌, List, [], ◌∷◌, length, map, false, refl, sym, ap, subst}
 use Rattle.std.proofs.lemmas.List.{length-map}
 use Rattle.ng_base.specs.declared.kind.Kind.{Kind}
-use Rattle.ng_feed.specs.Inputs.{commands_that, is_first}
+use Rattle.ngctl_script.specs.feed.Inputs.{commands_that, is_first}
 use Rattle.ng_machine.specs.declared.input.Input.{Input}
 use Rattle.ng_machine.specs.Laws.{Setting, run_state_after, world_after}
 use Rattle.ng_machine.specs.LowRun.{IsModest}
 use Rattle.ng_machine.specs.Run.{RunState}
 use Rattle.ng_machine.specs.State.{kind_of}
 use Rattle.ng_machine.specs.World.{World}
-use Rattle.ng_run.specs.Plainly.{WentPlainly}
-use Rattle.ng_run.specs.Beginning.{begun_core}
-use Rattle.ng_run.specs.CoreStory.{CoreStory, setting_of as core_setting, story}
-use Rattle.ng_run.proofs.PortCounts.{ports_stay}
-use Rattle.ng_story.specs.Story.{has_ended, with_more, world_of}
-use Rattle.ng_words.specs.declared.port.PortWord.{PortWord}
-use Rattle.ng_words.specs.Lists as words
-use Rattle.ng_run.proofs.Cores.{begun_runs, same_different}
+use Rattle.ng_workers.specs.pool.Plainly.{WentPlainly}
+use Rattle.ng_core.specs.Beginning.{begun_core}
+use Rattle.ng_core.specs.CoreStory.{CoreStory, setting_of as core_setting, story}
+use Rattle.ng_core.proofs.PortCounts.{ports_stay}
+use Rattle.ng_machine.specs.story.Story.{has_ended, with_more, world_of}
+use Rattle.ng_args.specs.declared.port.PortWord.{PortWord}
+use Rattle.ng_base.specs.Names.{are_different}
+use Rattle.ng_core.proofs.Stocked.{begun_runs}
 use Rattle.ng_forecast.specs.Steps.{IsRun, most_applied, setting_of}
 use Rattle.ng_forecast.proofs.Standing.{is_modest, names_differ}
 use Rattle.ng_forecast.proofs.stand.run_commands.Goals as goal
@@ -23,8 +23,7 @@ use Rattle.ng_forecast.proofs.stand.run_commands.Goals.{After-journal-journal}
 
 pub new-requires-clause-names : goal.new-requires-clause-names
 new-requires-clause-names g c κs within =
-    same_different (c.args.words.now.own_name ∷ c.in_ok-ports.ports.items)
-    ∙ ap (λ (l : List (List ℕ)). words.are_different (c.args.words.now.own_name ∷ l)) (c.in_ok-ports.ensures ∙ ap (λ (p : List PortWord). map (λ port. port.name) p) c.as_slice.ensures)
+    ap (λ (l : List (List ℕ)). are_different (c.args.words.now.own_name ∷ l)) (c.in_ok-ports.ensures ∙ ap (λ (p : List PortWord). map (λ port. port.name) p) c.as_slice.ensures)
     ∙ names_differ c.args.words.now c.requires.names
 
 -- the core as it was made, with these names of ports

@@ -1,8 +1,8 @@
 use Rattle.std.proofs.Common.{map, refl}
 use Rattle.std.specs.Prelude.{string_bytes}
 use Rattle.ng_machine.specs.State.{kind_of}
-use Rattle.ng_run.specs.Parts.{counting, outside, storing}
-use Rattle.ng_words.specs.Forecast.{forecast_words_of}
+use Rattle.ng_call.specs.Parts.{counting, outside, storing}
+use Rattle.ng_args.specs.Forecast.{forecast_words_of}
 use Rattle.ng_forecast.proofs.Ending.{ends_unread}
 use Rattle.ng_forecast.proofs.top.forecast_call.Goals as goal
 

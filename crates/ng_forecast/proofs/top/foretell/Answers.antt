@@ -1,6 +1,6 @@
 use Rattle.std.proofs.Common.{map}
 use Rattle.ng_machine.specs.State.{kind_of}
-use Rattle.ng_run.specs.Parts.{of_files}
+use Rattle.ng_call.specs.Parts.{of_files}
 use Rattle.ng_forecast.proofs.Reading.{as_many}
 use Rattle.ng_forecast.proofs.Ending.{foretold, not_foretold, unread}
 use Rattle.ng_forecast.proofs.top.foretell.Goals as goal

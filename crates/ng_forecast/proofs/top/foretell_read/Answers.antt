@@ -1,9 +1,9 @@
 use Rattle.std.proofs.Common.{◌∙◌, ap, map, sym}
 use Rattle.ng_machine.specs.State.{kind_of}
 use Rattle.ng_machine.specs.World.{World}
-use Rattle.ng_run.specs.CoreStory.{story}
-use Rattle.ng_story.specs.Story.{world_of}
-use Rattle.ng_run.specs.Writes.{is_stopped}
+use Rattle.ng_core.specs.CoreStory.{story}
+use Rattle.ng_machine.specs.story.Story.{world_of}
+use Rattle.ng_call.specs.Writes.{is_stopped}
 use Rattle.ng_forecast.specs.Steps.{flights_of}
 use Rattle.ng_forecast.proofs.Ending.{memory_refuses, packets_foretold, packets_refuse}
 use Rattle.ng_forecast.proofs.top.foretell_read.Goals as goal

@@ -1,5 +1,5 @@
 use Rattle.std.proofs.Common.{◌≡◌, ◌∙◌, length, ap, sym}
-use Rattle.ng_spread.specs.StillWorld.{StillWorld}
+use Rattle.ng_core.specs.StillWorld.{StillWorld}
 use Rattle.ng_forecast.proofs.Coming.{come_within}
 use Rattle.ng_forecast.proofs.top.gather_captures.Goals as goal
 

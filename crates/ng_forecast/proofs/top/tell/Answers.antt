@@ -1,5 +1,5 @@
 use Rattle.std.proofs.Common.{◌∙◌, List, map, ap}
-use Rattle.ng_words.specs.declared.port.PortWord.{PortWord}
+use Rattle.ng_args.specs.declared.port.PortWord.{PortWord}
 use Rattle.ng_forecast.specs.Text.{bag_text}
 use Rattle.ng_forecast.proofs.Ending.{ends_told}
 use Rattle.ng_forecast.proofs.top.tell.Goals as goal

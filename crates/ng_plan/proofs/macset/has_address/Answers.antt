@@ -1,7 +1,7 @@
 -- The address that is found by the number of an address is the same.
 use Rattle.std.proofs.Common.{ℕ, List, is_some, ap, ◌∙◌}
 use Rattle.byteorder.specs.Endian.{big_number}
-use Rattle.ng_lookup.proofs.AddressLemmas.{found_number, found_address, lacks_address, any_found}
+use Rattle.ng_plan.proofs.lookup.AddressLemmas.{found_number, found_address, lacks_address, any_found}
 use Rattle.ng_plan.proofs.macset.has_address.Goals as goal
 
 pub same_address-requires : goal.same_address-requires

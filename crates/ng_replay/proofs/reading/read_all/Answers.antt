@@ -1,8 +1,8 @@
 use Rattle.std.proofs.Common.{ℕ, List, subst}
-use Rattle.ng_words.specs.declared.port.PortWord.{PortWord}
-use Rattle.ng_words.specs.declared.words.Source.TheVariants.{FromFiles}
-use Rattle.ng_run.specs.Found.{IsRead}
-use Rattle.ng_run.specs.Parts.{AllPass, AllStop, of_files}
+use Rattle.ng_args.specs.declared.port.PortWord.{PortWord}
+use Rattle.ng_args.specs.declared.words.Source.TheVariants.{FromFiles}
+use Rattle.ng_call.specs.Found.{IsRead}
+use Rattle.ng_call.specs.Parts.{AllPass, AllStop, of_files}
 use Rattle.ng_replay.specs.Call.{journal_steps}
 use Rattle.ng_replay.specs.Parts.{Stops}
 use Rattle.ng_replay.proofs.ReadAll.{given_stops, journal_stops}

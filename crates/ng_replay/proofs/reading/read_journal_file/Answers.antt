@@ -1,6 +1,6 @@
 use Rattle.std.proofs.Common.{refl}
-use Rattle.ng_run.specs.Parts.{of_files}
-use Rattle.ng_run.proofs.Files.{big_is_there}
+use Rattle.ng_call.specs.Parts.{of_files}
+use Rattle.ng_call.proofs.Files.{big_is_there}
 use Rattle.ng_replay.proofs.Journals.{journal_big, journal_memory, journal_unread}
 use Rattle.ng_replay.proofs.reading.read_journal_file.Goals as goal
 

@@ -1,9 +1,9 @@
 -- The lines of the ports so far.
 use Rattle.std.proofs.Common.{◌≡◌, take}
-use Rattle.ng_run.specs.Writes.{shown_by}
-use Rattle.ng_run.specs.CoreStory.{story}
-use Rattle.ng_story.specs.Story.{world_of}
-use Rattle.ngctl_text.specs.Text.{reports}
+use Rattle.ng_call.specs.Writes.{shown_by}
+use Rattle.ng_core.specs.CoreStory.{story}
+use Rattle.ng_machine.specs.story.Story.{world_of}
+use Rattle.ngctl_print.specs.whole.Text.{reports}
 use Rattle.ng_replay.proofs.text.reports.Given as goal
 
 abbrev pub invariant-loop-i : goal.invariant-loop-i

@@ -1,6 +1,6 @@
 use Rattle.std.proofs.Common.{◌∙◌, refl, sym, map, string_bytes}
-use Rattle.ng_words.specs.Replay.{replay_words_of}
-use Rattle.ng_run.specs.Parts.{storing, outside, counting}
+use Rattle.ng_args.specs.Replay.{replay_words_of}
+use Rattle.ng_call.specs.Parts.{storing, outside, counting}
 use Rattle.ng_replay.specs.Call.{kinds_of}
 use Rattle.ng_replay.proofs.Replaying.{memory_ends}
 use Rattle.ng_replay.proofs.Said.{in_form}

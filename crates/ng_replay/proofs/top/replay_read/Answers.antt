@@ -1,10 +1,10 @@
 use Rattle.std.proofs.Common.{◌∙◌, map, refl, ap, subst, arith}
-use Rattle.ng_judge.specs.Verdict.{IsVerdict}
+use Rattle.ng_replay.specs.judge.Verdict.{IsVerdict}
 use Rattle.ng_pcap.specs.declared.capture.Capture.{Capture}
-use Rattle.ng_run.specs.CoreStory.{story}
-use Rattle.ng_story.specs.Story.{world_of}
-use Rattle.ng_run.specs.Run.{setting_of}
-use Rattle.ng_run.proofs.Running.{all_printable, cuts_many, early, few_captures, inputs_found, may_run}
+use Rattle.ng_core.specs.CoreStory.{story}
+use Rattle.ng_machine.specs.story.Story.{world_of}
+use Rattle.ng_call.specs.Run.{setting_of}
+use Rattle.ng_call.proofs.Running.{all_printable, cuts_many, early, few_captures, inputs_found, may_run}
 use Rattle.ng_replay.specs.Call.{kinds_of, run_of}
 use Rattle.ng_replay.proofs.Replaying.{memory_ended, memory_failed, no_ends, printed, sink_failed, yes_of}
 use Rattle.ng_replay.proofs.top.replay_read.Goals as goal

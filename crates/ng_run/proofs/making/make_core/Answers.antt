@@ -1,10 +1,8 @@
 use Rattle.std.proofs.Common.{◌∙◌, ℕ, List, ◌∷◌, ap}
-use Rattle.ng_words.specs.Lists as words
-use Rattle.ng_run.proofs.Cores.{same_different}
+use Rattle.ng_base.specs.Names.{are_different}
 use Rattle.ng_run.proofs.making.make_core.Goals as goal
 
 pub new-requires-clause-names : goal.new-requires-clause-names
 new-requires-clause-names g c κs within =
-    same_different (c.args.words.now.own_name ∷ c.in_ok-ports.ports.items)
-    ∙ ap (λ (l : List (List ℕ)). words.are_different (c.args.words.now.own_name ∷ l)) c.in_ok-ports.ensures
+    ap (λ (l : List (List ℕ)). are_different (c.args.words.now.own_name ∷ l)) c.in_ok-ports.ensures
     ∙ c.requires.may.1.differ

@@ -2,10 +2,10 @@ use Rattle.std.proofs.Common.{◌≡◌, ℕ, ◌<◌, List, map, sym, ap, subst
 use Rattle.ng_base.specs.declared.kind.Kind.{Kind}
 use Rattle.ng_machine.specs.LowRun.{IsModest}
 use Rattle.ng_machine.specs.State.{kind_of}
-use Rattle.ng_workers.specs.CoreStory.{CoreStory, setting_of, story}
-use Rattle.ng_story.specs.Story.{AreFitFor, run_state_of, with_more}
+use Rattle.ng_core.specs.CoreStory.{CoreStory, setting_of, story}
+use Rattle.ng_machine.specs.story.Story.{AreFitFor, run_state_of, with_more}
 use Rattle.ng_workers.specs.Ending.{RanToEnd}
-use Rattle.ng_run.specs.Stocked.{begun_by}
+use Rattle.ng_run.specs.Begun.{begun_by}
 use Rattle.ng_run.proofs.Runs.{IsWholeRun, has_ports, is_run, is_world, runs}
 use Rattle.ng_run.proofs.making.run_beside.Goals as goal
 use Rattle.ng_run.proofs.making.run_beside.Goals.{After-journal-journal}

@@ -1,9 +1,9 @@
 use Rattle.std.proofs.Common.{◌∙◌, ℕ, ◌<◌, length, None, sym, subst, arith}
 use Rattle.std.proofs.lemmas.Grind.{common_steps}
-use Rattle.ng_workers.specs.CoreStory.{setting_of, story}
-use Rattle.ng_workers.proofs.PortCounts.{ports_stay}
-use Rattle.ng_story.specs.Story.{world_of}
-use Rattle.ng_run.proofs.Reports.{line_more, one_line}
+use Rattle.ng_core.specs.CoreStory.{setting_of, story}
+use Rattle.ng_core.proofs.PortCounts.{ports_stay}
+use Rattle.ng_machine.specs.story.Story.{world_of}
+use Rattle.ng_call.proofs.Reports.{line_more, one_line}
 use Rattle.ng_run.proofs.text.reports.Goals as goal
 
 pub loop-i-preserved : goal.loop-i-preserved

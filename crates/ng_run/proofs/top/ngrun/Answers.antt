@@ -1,5 +1,5 @@
 use Rattle.std.proofs.Common.{map, string_bytes}
-use Rattle.ng_run.proofs.Exactly.{comes, completes, does_all, usage_comes, keeps_others, writes_each, reading_only, writing_only, refuses_quietly, leaves_prefix, runs_plainly}
+use Rattle.ng_call.proofs.Exactly.{comes, completes, does_all, usage_comes, keeps_others, writes_each, reading_only, writing_only, refuses_quietly, leaves_prefix, runs_plainly}
 use Rattle.ng_run.proofs.top.ngrun.Goals as goal
 
 pub returns-clause-usage : goal.returns-clause-usage

@@ -1,8 +1,8 @@
 use Rattle.std.proofs.Common.{◌∙◌, refl, sym, map, string_bytes}
-use Rattle.ng_words.specs.Run.{words_of}
+use Rattle.ng_args.specs.Run.{words_of}
 use Rattle.ng_machine.specs.State.{kind_of}
-use Rattle.ng_run.specs.Parts.{storing, outside, counting}
-use Rattle.ng_run.proofs.Said.{in_form}
+use Rattle.ng_call.specs.Parts.{storing, outside, counting}
+use Rattle.ng_call.proofs.Said.{in_form}
 use Rattle.ng_run.proofs.Ending.{memory_ends}
 use Rattle.ng_run.proofs.top.run_call.Goals as goal
 

@@ -1,10 +1,10 @@
 use Rattle.std.proofs.Common.{◌∙◌, map, ap, arith}
 use Rattle.ng_pcap.specs.declared.capture.Capture.{Capture}
 use Rattle.ng_machine.specs.State.{kind_of}
-use Rattle.ng_workers.specs.CoreStory.{story}
-use Rattle.ng_story.specs.Story.{world_of}
-use Rattle.ng_run.specs.Parts.{storing, outside, counting}
-use Rattle.ng_run.proofs.Running.{few_captures, cuts_many, may_run, inputs_found, all_printable, all_writable}
+use Rattle.ng_core.specs.CoreStory.{story}
+use Rattle.ng_machine.specs.story.Story.{world_of}
+use Rattle.ng_call.specs.Parts.{storing, outside, counting}
+use Rattle.ng_call.proofs.Running.{few_captures, cuts_many, may_run, inputs_found, all_printable, all_writable}
 use Rattle.ng_run.proofs.Ending.{write_stops, all_done}
 use Rattle.ng_run.proofs.top.run_read.Goals as goal
 

@@ -1,10 +1,10 @@
 use Rattle.std.proofs.Common.{map, List, ap, refl, sym, ◌∙◌, subst}
-use Rattle.ng_words.specs.declared.port.PortWord.{PortWord}
-use Rattle.ng_words.specs.declared.words.Source.{Source}
-use Rattle.ng_words.specs.declared.words.Source.TheVariants.{FromFiles}
+use Rattle.ng_args.specs.declared.port.PortWord.{PortWord}
+use Rattle.ng_args.specs.declared.words.Source.{Source}
+use Rattle.ng_args.specs.declared.words.Source.TheVariants.{FromFiles}
 use Rattle.ng_machine.specs.State.{kind_of}
-use Rattle.ng_run.specs.Parts.{of_files, storing, outside, counting, AllStop}
-use Rattle.ng_run.proofs.Reading.{memory_all}
+use Rattle.ng_call.specs.Parts.{of_files, storing, outside, counting, AllStop}
+use Rattle.ng_call.proofs.Reading.{memory_all}
 use Rattle.ng_run.proofs.Ending.{ends_since, read_stops, memory_refuses}
 use Rattle.ng_run.proofs.top.run_words.Goals as goal
 

@@ -1,10 +1,10 @@
 use Rattle.std.proofs.Common.{◌∙◌, ℕ, ◌<◌, sym, ap, subst, length, arith}
 use Rattle.ng_machine.specs.World.{Port}
-use Rattle.ngctl_text.specs.Captures.{capture_of}
-use Rattle.ng_workers.specs.CoreStory.{setting_of, story}
-use Rattle.ng_workers.proofs.PortCounts.{ports_stay}
-use Rattle.ng_story.specs.Story.{world_of}
-use Rattle.ng_run.proofs.Ports.{empty_is, some_is}
+use Rattle.ngctl_print.specs.whole.Captures.{capture_of}
+use Rattle.ng_core.specs.CoreStory.{setting_of, story}
+use Rattle.ng_core.proofs.PortCounts.{ports_stay}
+use Rattle.ng_machine.specs.story.Story.{world_of}
+use Rattle.ng_call.proofs.Ports.{empty_is, some_is}
 use Rattle.ng_run.proofs.Writing.{port_is, skips, fails, whole, later}
 use Rattle.ng_run.proofs.write.+write_outs.Goals as goal
 

@@ -1,13 +1,13 @@
 use Rattle.std.proofs.Common.{List, subst}
 use Rattle.std.specs.List.{list_any}
 use Rattle.ng_base.specs.declared.event.Event.{Event}
-use Rattle.ng_ends.specs.Writes.{WritesAll, StopsAt, StopsFor}
-use Rattle.ngctl_text.specs.Text.{world_text}
-use Rattle.ng_workers.specs.CoreStory.{story}
-use Rattle.ng_story.specs.Story.{world_of}
-use Rattle.ng_run.specs.declared.ended.Fault.TheVariants.{NoMemory}
-use Rattle.ng_run.specs.Parts.{of_files, storing}
-use Rattle.ng_run.specs.Writes.{is_stop, shown_by, out_writes, journal_writes}
+use Rattle.ng_call.specs.ending.Writes.{WritesAll, StopsAt, StopsFor}
+use Rattle.ngctl_print.specs.whole.Text.{world_text}
+use Rattle.ng_core.specs.CoreStory.{story}
+use Rattle.ng_machine.specs.story.Story.{world_of}
+use Rattle.ng_call.specs.declared.ended.Fault.TheVariants.{NoMemory}
+use Rattle.ng_call.specs.Parts.{of_files, storing}
+use Rattle.ng_call.specs.Writes.{is_stop, shown_by, out_writes, journal_writes}
 use Rattle.ng_run.proofs.Writing.{all_written, outs_stop, journal_stops}
 use Rattle.ng_run.proofs.write.write_all.Goals as goal
 

@@ -1,7 +1,7 @@
 -- The box has the hooks that are left.
 use Rattle.std.proofs.Common.{◌≡◌, map}
 use Rattle.std.specs.Prelude.{drop}
-use Rattle.ng_hooks.specs.Hooks.{NamesDiffer}
+use Rattle.ng_topology.specs.hooks.Hooks.{NamesDiffer}
 use Rattle.ng_topology.specs.NodeEntry.{without_all}
 use Rattle.ng_topology.proofs.entry.cut_all.Given as goal
 

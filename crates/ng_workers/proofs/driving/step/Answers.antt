@@ -1,5 +1,5 @@
 use Rattle.std.proofs.Common.{subst}
-use Rattle.ng_world.specs.declared.handed.Work.{Work}
+use Rattle.ng_core_state.specs.declared.handed.Work.{Work}
 use Rattle.ng_workers.specs.declared.next.Next.{Next}
 use Rattle.ng_workers.specs.Hands.{Drove}
 use Rattle.ng_workers.specs.Passes.{desk}

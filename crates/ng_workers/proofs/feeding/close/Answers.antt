@@ -1,5 +1,5 @@
 use Rattle.std.proofs.Common.{◌≡◌, None, sym, subst}
-use Rattle.ng_pool.specs.CoreStory.{CoreStory}
+use Rattle.ng_core.specs.CoreStory.{CoreStory}
 use Rattle.ng_workers.specs.Desks.{core_desk}
 use Rattle.ng_workers.specs.Driving.{Drives, IsOpenFor}
 use Rattle.ng_workers.proofs.Driven.{drives_none}

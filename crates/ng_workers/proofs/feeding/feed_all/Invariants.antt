@@ -1,8 +1,8 @@
 -- Some of the inputs were fed, and the others may be.
 use Rattle.std.proofs.Common.{◌≡◌, None, false, length}
-use Rattle.ng_pool.specs.CoreStory.{story}
-use Rattle.ng_story.specs.Desks.{Others}
-use Rattle.ng_story.specs.Story.{has_ended}
+use Rattle.ng_core.specs.CoreStory.{story}
+use Rattle.ng_machine.specs.story.Desks.{Others}
+use Rattle.ng_machine.specs.story.Story.{has_ended}
 use Rattle.ng_workers.specs.Desks.{core_desk}
 use Rattle.ng_workers.specs.Driving.{Drives, IsOpenFor}
 use Rattle.ng_workers.proofs.feeding.feed_all.Given as goal

@@ -1,5 +1,5 @@
 use Rattle.std.proofs.Common.{◌∙◌, ap}
-use Rattle.ng_pool.specs.CoreStory.{CoreStory}
+use Rattle.ng_core.specs.CoreStory.{CoreStory}
 use Rattle.ng_workers.specs.Desks.{core_desk}
 use Rattle.ng_workers.proofs.Growing.{grew_marked, marked}
 use Rattle.ng_workers.proofs.holding.apply.Goals as goal

@@ -1,5 +1,5 @@
-use Rattle.ng_pool.proofs.OpenStories.{open_story}
-use Rattle.ng_pool.specs.CoreStory.{story}
+use Rattle.ng_core.proofs.OpenStories.{open_story}
+use Rattle.ng_core.specs.CoreStory.{story}
 use Rattle.ng_workers.proofs.holding.know_work.Goals as goal
 
 pub returns : goal.returns

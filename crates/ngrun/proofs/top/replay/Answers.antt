@@ -1,11 +1,11 @@
 -- The words of the replay are those behind the first.
 use Rattle.std.proofs.Common.{ℕ, List, map, subst}
 use Rattle.ng_base.specs.declared.kind.Kind.{Kind}
-use Rattle.ng_ends.specs.Outside.{Outside}
+use Rattle.ng_call.specs.ending.Outside.{Outside}
 use Rattle.ng_machine.specs.State.{kind_of}
-use Rattle.ng_run.specs.Parts.{storing, outside, counting}
+use Rattle.ng_call.specs.Parts.{storing, outside, counting}
 use Rattle.ng_stock.specs.Any.{any_state}
-use Rattle.ng_words.specs.Replay.{replay_words_of}
+use Rattle.ng_args.specs.Replay.{replay_words_of}
 use Rattle.ngrun.specs.Calls.{IsReplayCall}
 use Rattle.ngrun.proofs.top.replay.Goals as goal
 

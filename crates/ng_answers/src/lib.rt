@@ -1,7 +1,0 @@
-//! What is known of each answer of a run: which command asked for it, its row in the table of control
-//! messages, and the layout of its bytes. Laws alone.
-#![tactic(auto)]
-
-mod laws;
-
-pub use laws::{answers_have_rows, answers_were_asked, helps_were_fed};

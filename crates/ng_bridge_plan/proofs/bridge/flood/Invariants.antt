@@ -1,6 +1,0 @@
-use Rattle.std.proofs.Common.{◌≡◌, take}
-use Rattle.ng_machine.specs.Bridge.{floods, others}
-use Rattle.ng_bridge_plan.proofs.bridge.flood.Given as goal
-
-abbrev pub invariant-loop-link : goal.invariant-loop-link
-invariant-loop-link l = l.outcome ≡ floods (others (take l.link-index l.links) l.hook) l.frame l.initial.outcome.counts l.initial.outcome.learn

@@ -1,6 +1,0 @@
-use Rattle.std.proofs.Common.{◌≡◌, map, take, drop, ◌++◌}
-use Rattle.ng_machine.specs.Bridge.{age_host, rest_host}
-use Rattle.ng_bridge_type.proofs.hosts.grow_all_old.Given as goal
-
-abbrev pub invariant-loop-host : goal.invariant-loop-host
-invariant-loop-host l = l.hosts ≡ map (λ h. age_host l.seconds (rest_host h)) (take l.host-index l.initial.hosts) ++ drop l.host-index l.initial.hosts

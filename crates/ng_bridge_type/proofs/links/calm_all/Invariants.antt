@@ -1,6 +1,0 @@
-use Rattle.std.proofs.Common.{◌≡◌, map, take, drop, ◌++◌}
-use Rattle.ng_machine.specs.Bridge.{calm_link}
-use Rattle.ng_bridge_type.proofs.links.calm_all.Given as goal
-
-abbrev pub invariant-loop-link : goal.invariant-loop-link
-invariant-loop-link l = l.links ≡ map (calm_link l.seconds) (take l.link-index l.initial.links) ++ drop l.link-index l.initial.links

@@ -1,0 +1,11 @@
+pub mod Captures
+pub mod Files
+pub mod Ports
+pub mod Reading
+pub mod Reports
+pub mod GivenSorts
+pub mod Sorts
+pub mod Said
+pub mod Running
+pub mod Apart
+pub mod Exactly

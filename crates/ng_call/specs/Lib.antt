@@ -1,0 +1,10 @@
+pub mod ending
+pub mod Said
+pub mod Found
+pub mod Steps
+pub mod Run
+pub mod Writes
+pub mod Ends
+pub mod Parts
+pub mod Exactly
+pub mod Line

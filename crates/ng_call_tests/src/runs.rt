@@ -1,0 +1,4 @@
+// Runs whose files or output fail, and runs at gates.
+mod failing;
+mod gates;
+mod outputs;

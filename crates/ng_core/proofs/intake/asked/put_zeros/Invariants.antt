@@ -1,0 +1,6 @@
+-- So many so far.
+use Rattle.std.proofs.Common.{◌≡◌, ◌++◌, replicate}
+use Rattle.ng_core.proofs.intake.asked.put_zeros.Given as goal
+
+abbrev pub invariant-loop : goal.invariant-loop
+invariant-loop l = l.out.items ≡ l.fn.out.items ++ replicate l.counter 0

@@ -1,0 +1,13 @@
+pub mod intake
+pub mod Calls
+pub mod CoreStory
+pub mod Beginning
+pub mod Kept
+pub mod Stops
+pub mod Away
+pub mod Lawful
+pub mod Counting
+pub mod StillWorld
+pub mod Planned
+pub mod Served
+pub mod Stocked

@@ -1,0 +1,2 @@
+pub mod NodesStay
+pub mod AtHands

@@ -1,0 +1,3 @@
+pub mod orders
+pub mod removal
+pub mod AtHand

@@ -1,0 +1,4 @@
+pub mod Applied
+pub mod Boxes
+pub mod Steps
+pub mod Changed

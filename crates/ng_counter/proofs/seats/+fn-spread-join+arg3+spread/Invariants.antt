@@ -1,8 +1,0 @@
-use Rattle.std.proofs.Common.{length}
-use Rattle.ng_counter.proofs.seats.+fn-spread-join+arg3+spread.Given as goal
-
-abbrev pub decreases-join+arg3 : goal.decreases-join+arg3
-decreases-join+arg3 g l = length l.passes.items
-
-abbrev pub decreases-spread : goal.decreases-spread
-decreases-spread g l = length l.passes.items

@@ -1,9 +1,0 @@
-//! The events of a run, kept in eight bytes each.
-#![tactic(auto)]
-
-mod events;
-mod journal;
-mod short;
-
-pub use events::Events;
-pub use journal::Journal;

@@ -1,5 +1,0 @@
-use Rattle.std.specs.Prelude.{refl}
-use Rattle.ng_examples.proofs.type_examples.aging_example.Goals as goal
-
-pub returns : goal.returns
-returns c = (refl, refl, refl, refl, refl, refl, refl, refl)

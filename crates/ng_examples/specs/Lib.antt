@@ -1,5 +1,0 @@
-pub mod Commands
-pub mod Examples
-pub mod TypeCommands
-pub mod TypeExamples
-pub mod DeskExamples

@@ -1,5 +1,0 @@
-use Rattle.std.specs.Prelude.{refl}
-use Rattle.ng_feed.proofs.examples.long_tick_example.Goals as goal
-
-pub returns : goal.returns
-returns c = refl

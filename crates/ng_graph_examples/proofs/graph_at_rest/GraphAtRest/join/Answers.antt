@@ -1,8 +1,0 @@
--- The node answers that it may get the hook.
-use Rattle.std.proofs.Common.{refl}
-use Rattle.std.specs.Prelude.{Ok}
-use Rattle.ng_topology.proofs.NodeLemmas.{may_gets}
-use Rattle.ng_graph_examples.proofs.graph_at_rest.GraphAtRest.join.Goals as goal
-
-pub join-requires-clause-may : goal.join-requires-clause-may
-join-requires-clause-may g c κs within = may_gets c.self.inside.graph c.args.at.now (Ok c.in_ok-may.field-0) refl c.in_ok-may.ensures

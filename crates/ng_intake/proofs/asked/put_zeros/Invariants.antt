@@ -1,6 +1,0 @@
--- So many so far.
-use Rattle.std.proofs.Common.{◌≡◌, ◌++◌, replicate}
-use Rattle.ng_intake.proofs.asked.put_zeros.Given as goal
-
-abbrev pub invariant-loop : goal.invariant-loop
-invariant-loop l = l.out.items ≡ l.fn.out.items ++ replicate l.counter 0

@@ -1,6 +1,0 @@
-use Rattle.ng_pool.specs.CoreStory.{setting_of, story}
-use Rattle.ng_judge.proofs.Followed.{begun_follows}
-use Rattle.ng_judge.proofs.judging.judge.Goals as goal
-
-pub verdict_of-requires-clause-begun : goal.verdict_of-requires-clause-begun
-verdict_of-requires-clause-begun g c κs within = begun_follows (story c.args.core.now) (setting_of c.args.core.now) c.new-unfed.result c.requires.begun

@@ -1,7 +1,0 @@
-// Laws of verdicts. Each function does nothing: its contract is the law.
-ghost use Rattle.ng_judge.specs.Laws.{OneVerdict};
-
-/// A journal gets one verdict.
-pub fn one_verdict()
-    ensures { OneVerdict }
-{}

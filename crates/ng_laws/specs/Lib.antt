@@ -1,0 +1,3 @@
+pub mod answers
+pub mod printable
+pub mod still_graph

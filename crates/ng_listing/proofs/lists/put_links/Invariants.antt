@@ -1,6 +1,0 @@
-use Rattle.std.proofs.Common.{◌≡◌, ◌++◌}
-use Rattle.ng_listing.specs.Lists.{hook_line, lines_of}
-use Rattle.ng_listing.proofs.lists.put_links.Given as goal
-
-abbrev pub invariant-loop-number : goal.invariant-loop-number
-invariant-loop-number l = l.out.items ≡ l.fn.out.items ++ lines_of hook_line 136 l.number l.links

@@ -1,6 +1,0 @@
-use Rattle.ng_listing.specs.Lists.{node_line}
-use Rattle.ng_listing.proofs.Lines.{one_more}
-use Rattle.ng_listing.proofs.lists.put_nodes.Goals as goal
-
-pub loop-number-preserved : goal.loop-number-preserved
-loop-number-preserved c = one_more node_line 72 c.loop-number.number c.args.nodes.now _ _ _ _ c.tail.ensures.bytes c.loop-number.invariant c.in_ok-put_node.ensures

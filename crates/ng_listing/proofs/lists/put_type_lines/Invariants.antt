@@ -1,6 +1,0 @@
-use Rattle.std.proofs.Common.{◌≡◌, ◌++◌}
-use Rattle.ng_listing.specs.Lists.{type_line, lines_of}
-use Rattle.ng_listing.proofs.lists.put_type_lines.Given as goal
-
-abbrev pub invariant-loop-number : goal.invariant-loop-number
-invariant-loop-number l = l.out.items ≡ l.fn.out.items ++ lines_of type_line 36 l.number l.kinds

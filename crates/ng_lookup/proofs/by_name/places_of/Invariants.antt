@@ -1,6 +1,0 @@
-use Rattle.std.proofs.Common.{take}
-use Rattle.ng_lookup.specs.ByName.{IsIndexed}
-use Rattle.ng_lookup.proofs.by_name.places_of.Given as goal
-
-abbrev pub invariant-loop-place : goal.invariant-loop-place
-invariant-loop-place g l = IsIndexed g.T.Named.name_of (take l.place l.entries) l.places

@@ -1,0 +1,14 @@
+pub mod Hub
+pub mod Hole
+pub mod Echo
+pub mod Tee
+pub mod Split
+pub mod One2many
+pub mod Macset
+pub mod Bridge
+pub mod Vlan
+pub mod Patch
+pub mod Bpf
+pub mod Ether
+pub mod Socket
+pub mod Etf

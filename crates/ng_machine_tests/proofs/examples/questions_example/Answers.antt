@@ -1,0 +1,5 @@
+use Rattle.std.specs.Prelude.{refl}
+use Rattle.ng_machine_tests.proofs.examples.questions_example.Goals as goal
+
+pub returns : goal.returns
+returns c = (refl, refl, refl)

@@ -1,6 +1,0 @@
-//! A workload from a number: a script, and captures of three ports.
-#![tactic(auto)]
-
-mod made;
-
-pub use made::{Made, make};

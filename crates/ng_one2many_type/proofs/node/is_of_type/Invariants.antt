@@ -1,7 +1,0 @@
-use Rattle.std.proofs.Common.{◌≡◌, ℕ, ◌<◌, false}
-use Rattle.std.specs.Str.{bytes_eq}
-use Rattle.ng_machine.specs.One2many.{many}
-use Rattle.ng_one2many_type.proofs.node.is_of_type.Given as goal
-
-abbrev pub invariant-loop-link : goal.invariant-loop-link
-invariant-loop-link l = (k : ℕ) → k < l.link → bytes_eq (many k) l.hook ≡ false

@@ -1,7 +1,0 @@
--- What is retained is what the test lets through.
-use Rattle.std.proofs.Common.{rules}
-use Rattle.std.proofs.lemmas.Fn.{filter_same}
-use Rattle.ng_one2many_type.proofs.rows.Rows.cut.Goals as goal
-
-pub returns : goal.returns
-returns c = rw (← c.self.view_is) (filter_same _ _ _ (λ x b f' k. search rules) _ _ c.retain.ensures.filtered)

@@ -1,6 +1,0 @@
-use Rattle.std.proofs.Common.{◌≡◌, ◌++◌, flat_map, take}
-use Rattle.ng_orders.specs.Asked.{type_bytes}
-use Rattle.ng_orders.proofs.asking.put_types.Given as goal
-
-abbrev pub invariant-loop-kind : goal.invariant-loop-kind
-invariant-loop-kind l = l.out.items ≡ l.initial.out.items ++ flat_map (type_bytes l.counts) (take l.kind-index l.kinds)

@@ -1,6 +1,0 @@
-use Rattle.std.proofs.Common.{refl}
-use Rattle.ng_world.proofs.SentItems.{stands_done}
-use Rattle.ng_orders.proofs.pieces.finish.Goals as goal
-
-pub returns-clause-stands : goal.returns-clause-stands
-returns-clause-stands g c = λ a S o. stands_done c.args.state.now _ a c.args.item.now S o c.requires.leaves (c.finish.ensures.holds a S.items o) refl c.finish.ensures.lists refl refl

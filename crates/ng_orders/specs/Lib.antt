@@ -1,8 +1,0 @@
-pub mod Steps
-pub mod Changed
-pub mod Found
-pub mod Asked
-pub mod Refusals
-pub mod Orders
-pub mod Inside
-pub mod Classes

@@ -1,6 +1,0 @@
-use Rattle.std.proofs.Common.{refl}
-use Rattle.ng_pending.proofs.HeldItems.{same_held}
-use Rattle.ng_pending.proofs.pending.Pending.widen.Goals as goal
-
-pub returns-clause-holds : goal.returns-clause-holds
-returns-clause-holds c = λ a H. same_held c.args.self.now _ a H c.widen.ensures.lists refl refl

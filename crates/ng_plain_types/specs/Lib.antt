@@ -1,0 +1,3 @@
+pub mod simple
+pub mod tee
+pub mod edge

@@ -1,0 +1,5 @@
+pub mod CountsOfWorld
+pub mod LowCounts
+pub mod Refusals
+pub mod Dropping
+pub mod NumberLemmas

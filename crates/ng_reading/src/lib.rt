@@ -1,6 +1,0 @@
-//! Messages by their names: which message of a node a name and a text ask for.
-#![tactic(auto)]
-
-mod reading;
-
-pub use reading::{Found, read_message};

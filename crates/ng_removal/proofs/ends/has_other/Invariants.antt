@@ -1,7 +1,0 @@
-use Rattle.std.proofs.Common.{◌≡◌, false, take}
-use Rattle.ng_machine.specs.Retire.{has_hooks}
-use Rattle.ng_removal.proofs.Others.{others}
-use Rattle.ng_removal.proofs.ends.has_other.Given as goal
-
-abbrev pub invariant-loop-hook : goal.invariant-loop-hook
-invariant-loop-hook l = has_hooks (others l.name (take l.hook-index l.hooks)) ≡ false

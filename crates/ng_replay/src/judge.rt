@@ -1,0 +1,11 @@
+//! Whether a journal is one of a run: a core is driven by its events, one after another, and each of them is allowed exactly
+//! where the core does it.
+mod closing;
+mod following;
+mod judging;
+mod laws;
+mod verdict;
+
+pub use judging::judge;
+pub use laws::one_verdict;
+pub use verdict::Verdict;

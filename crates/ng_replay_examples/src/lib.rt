@@ -1,5 +1,0 @@
-//! Worked replays.
-#![tactic(auto)]
-
-#[cfg(test)]
-mod replays;

@@ -1,7 +1,0 @@
-use Rattle.std.proofs.Common.{arith}
-use Rattle.ng_run.proofs.Captures.{answer_writable}
-use Rattle.ng_run.proofs.parse.parse_capture.Goals as goal
-
-pub returns-clause-writable : goal.returns-clause-writable
-returns-clause-writable c =
-    answer_writable c.args.bytes.now c.read_capture.result (λ i. omega (arith, (c.type_inv.bytes i).fits)) c.read_capture.ensures

@@ -1,7 +1,0 @@
-use Rattle.std.proofs.Common.{refl}
-use Rattle.ng_step.proofs.MadeChanges.{stands_dropped}
-use Rattle.ng_step.proofs.changes.drop_for_hook.Goals as goal
-
-pub returns-clause-stands : goal.returns-clause-stands
-returns-clause-stands g c = λ a S o.
-    stands_dropped c.args.state.now _ a c.args.item.now S o c.requires.leaves (c.drop_for_hook.ensures.holds a S.items o) refl c.drop_for_hook.ensures.lists refl refl

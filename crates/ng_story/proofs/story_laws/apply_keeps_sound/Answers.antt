@@ -1,5 +1,0 @@
-use Rattle.ng_story.proofs.SoundStories.{apply_keeps_sound as proved}
-use Rattle.ng_story.proofs.story_laws.apply_keeps_sound.Goals as goal
-
-pub returns : goal.returns
-returns c = proved

@@ -1,0 +1,29 @@
+-- The link of the number is changed, and where there is none nothing is.
+use Rattle.std.proofs.Common.{refl, sym}
+use Rattle.ng_machine.specs.kinds.Bridge.{Link, loop_detects}
+use Rattle.ng_machine.specs.Counters.{raise_at}
+use Rattle.ng_sorted.specs.Order.{IsPlace, IsGap}
+use Rattle.ng_sorted.proofs.InOrder.{change_none}
+use Rattle.ng_switch_types.proofs.bridge.LinkLists.{number_of, changed, changed_order}
+use Rattle.ng_switch_types.proofs.bridge.links.Links.mute_for.Goals as goal
+
+pub invariant_of-self : goal.invariant_of-self
+invariant_of-self c =
+    let links = c.self.inside.links.items in
+    let at : IsPlace number_of links c.args.number c.in-Ok.at = rw (c.deref.ensures.value, c.from.ensures) at c.in-Ok.ensures.found in
+    let f = λ (l : Link). record l { mute = c.args.seconds; counters = raise_at l.counters loop_detects 1 } in
+    changed_order links c.args.number c.in-Ok.at f c.index_mut.result.now c.mute_for.new.self c.self.invariant at c.index_mut.ensures.value c.mute_for.ensures (λ l. refl)
+
+pub returns-in-Ok : goal.returns-in-Ok
+returns-in-Ok c =
+    let links = c.self.inside.links.items in
+    let at : IsPlace number_of links c.args.number c.in-Ok.at = rw (c.deref.ensures.value, c.from.ensures) at c.in-Ok.ensures.found in
+    let f = λ (l : Link). record l { mute = c.args.seconds; counters = raise_at l.counters loop_detects 1 } in
+    changed links c.args.self.now c.args.number c.in-Ok.at f c.index_mut.result.now c.mute_for.new.self at c.index_mut.ensures.value c.mute_for.ensures c.self.view_is
+
+pub returns-in_default : goal.returns-in_default
+returns-in_default c =
+    let links = c.self.inside.links.items in
+    let at : IsGap number_of links c.args.number c.in_default.field-0 = rw (c.deref.ensures.value, c.from.ensures) at c.in_default.ensures.missing in
+    let f = λ (l : Link). record l { mute = c.args.seconds; counters = raise_at l.counters loop_detects 1 } in
+    rw (← c.self.view_is) (sym (change_none number_of links c.args.number c.in_default.field-0 f at))

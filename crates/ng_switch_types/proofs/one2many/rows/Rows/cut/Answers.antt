@@ -1,0 +1,7 @@
+-- What is retained is what the test lets through.
+use Rattle.std.proofs.Common.{rules}
+use Rattle.std.proofs.lemmas.Fn.{filter_same}
+use Rattle.ng_switch_types.proofs.one2many.rows.Rows.cut.Goals as goal
+
+pub returns : goal.returns
+returns c = rw (← c.self.view_is) (filter_same _ _ _ (λ x b f' k. search rules) _ _ c.retain.ensures.filtered)

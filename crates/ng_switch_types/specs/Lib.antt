@@ -1,0 +1,3 @@
+pub mod bridge
+pub mod vlan
+pub mod one2many

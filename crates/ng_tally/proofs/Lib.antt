@@ -1,4 +1,0 @@
-pub mod CountsOfWorld
-pub mod LowCounts
-pub mod Refusals
-pub mod Dropping

@@ -1,6 +1,0 @@
-use Rattle.std.proofs.Common.{◌≡◌, map, drop}
-use Rattle.ng_words.specs.Lists.{are_different}
-use Rattle.ng_words.proofs.lists.are_different.Given as goal
-
-abbrev pub invariant-loop-place : goal.invariant-loop-place
-invariant-loop-place l = are_different (map (λ word. word.now) l.words) ≡ are_different (map (λ word. word.now) (drop l.place l.words))

@@ -1,6 +1,0 @@
-use Rattle.std.proofs.Common.{◌≡◌, ◌++◌, map, drop}
-use Rattle.ng_words.specs.Together.{ins}
-use Rattle.ng_words.proofs.together.add_ins.Given as goal
-
-abbrev pub invariant-loop-port : goal.invariant-loop-port
-invariant-loop-port l = map (λ file. file.now) l.files.items ++ ins (drop l.port-index l.ports) ≡ map (λ file. file.now) l.initial.files.items ++ ins l.ports

@@ -1,6 +1,0 @@
-use Rattle.std.proofs.Common.{◌≡◌, map, drop}
-use Rattle.ng_words.specs.Lists.{are_different}
-use Rattle.ng_words.proofs.together.are_names_different.Given as goal
-
-abbrev pub invariant-loop-place : goal.invariant-loop-place
-invariant-loop-place l = are_different (map (λ port. port.name) l.ports) ≡ are_different (map (λ port. port.name) (drop l.place l.ports))

@@ -1,0 +1,13 @@
+pub mod BridgeItems
+pub mod BridgeRuns
+pub mod WorkableJobs
+pub mod Fits
+pub mod Idle
+pub mod Ends
+pub mod Stretches
+pub mod PlainRuns
+pub mod Steps
+pub mod Endings
+pub mod Holding
+pub mod Playing
+pub mod Emptying

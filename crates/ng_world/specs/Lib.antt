@@ -1,4 +1,0 @@
-pub mod Lent
-pub mod Stands
-pub mod Room
-pub mod Handed

@@ -1,6 +1,0 @@
-use Rattle.std.proofs.Common.{◌≡◌, ◌↔◌, ◌+◌, drop}
-use Rattle.ngctl_text.specs.Commands.{AreFrom}
-use Rattle.ngctl_text.proofs.commands.are_in_order.Given as goal
-
-abbrev pub invariant-loop-command : goal.invariant-loop-command
-invariant-loop-command l = (l.next ≡ l.command-index + 1) × (AreFrom 1 l.commands ↔ AreFrom l.next (drop l.command-index l.commands))
