@@ -20,7 +20,7 @@ use Rattle.ng_call.specs.declared.ended.Fault.TheVariants.{NoMemory, TooBig, Rea
 use Rattle.ng_call.specs.declared.ended.Which.TheVariants as of
 use Rattle.ng_call.specs.Found.{IsRead}
 use Rattle.ng_call.specs.Steps.{over, script_steps, port_steps, fault_in, packets_in, most_script, most_bytes, most_packets}
-use Rattle.ng_call.specs.Ends.{names}
+use Rattle.ng_call.specs.Call.{names}
 use Rattle.ng_call.specs.Parts.{Stops, stop_of_script, stop_of_capture}
 
 -- bytes that may be read of a file

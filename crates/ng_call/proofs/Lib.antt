@@ -1,4 +1,5 @@
 pub mod Captures
+pub mod MadeInForm
 pub mod Files
 pub mod Ports
 pub mod Reading
@@ -8,4 +9,5 @@ pub mod Sorts
 pub mod Said
 pub mod Running
 pub mod Apart
-pub mod Exactly
+pub mod Told
+pub mod Behaves

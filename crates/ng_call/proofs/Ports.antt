@@ -15,7 +15,7 @@ use Rattle.ng_call.specs.declared.ended.Fault.{Fault}
 use Rattle.ng_call.specs.declared.ended.Fault.TheVariants.{NoMemory}
 use Rattle.ng_call.specs.Found.{IsRead, AreRead, capture_in, captures_in, no_capture}
 use Rattle.ng_call.specs.Steps.{port_steps, capture_steps, packets_in}
-use Rattle.ng_call.specs.Ends.{names}
+use Rattle.ng_call.specs.Call.{names}
 use Rattle.ng_call.specs.Parts.{of_files, Stops, PortsStop, PortsPass}
 use Rattle.ng_call.proofs.Files.{told_or_empty, told_read}
 

@@ -1,9 +1,11 @@
 -- The script, and the captures behind it.
-use Rattle.std.proofs.Common.{◌≡◌, inl, inr, ◌∙◌, ℕ, ◌≤◌, List, [], ◌++◌, Option, None, refl, ap, subst}
+use Rattle.std.proofs.Common.{◌≡◌, inl, inr, ◌∙◌, ℕ, ◌≤◌, List, [], ◌++◌, map, Option, Some, None, refl, ap, subst}
 use Rattle.ng_machine.specs.declared.command.Command.{Command}
 use Rattle.ng_outside.specs.Contents.{Contents}
 use Rattle.ng_pcap.specs.declared.capture.Capture.{Capture}
+use Rattle.ngctl_script.specs.Script.{commands_of}
 use Rattle.ngctl_script.specs.declared.when.When.{When}
+use Rattle.ngctl_script.specs.make.Made.{made_captures, made_script}
 use Rattle.ng_args.specs.declared.port.PortWord.{PortWord}
 use Rattle.ng_args.specs.declared.words.Source.{Source}
 use Rattle.ng_args.specs.declared.words.Source.TheVariants.{FromFiles, Made}
@@ -13,10 +15,10 @@ use Rattle.ng_call.proofs.ending.Lists.{first_behind, refuses_behind, refuses_wi
 use Rattle.ng_call.proofs.ending.Counts.{rose_since}
 use Rattle.ng_call.specs.declared.ended.Fault.{Fault}
 use Rattle.ng_call.specs.declared.ended.Fault.TheVariants.{NoMemory}
-use Rattle.ng_call.specs.Found.{Found, IsRead, AreRead, captures_in}
+use Rattle.ng_call.specs.Found.{Found, IsRead, AreRead, capture_in, captures_in}
 use Rattle.ng_call.specs.Steps.{script_steps, capture_steps}
-use Rattle.ng_call.specs.Ends.{names, made}
-use Rattle.ng_call.specs.Parts.{of_files, Stops, ScriptPasses, PortsPass, PortsStop, AllPass, AllStop}
+use Rattle.ng_call.specs.Call.{names, made}
+use Rattle.ng_call.specs.Parts.{AreAllWritable, of_files, Stops, ScriptPasses, PortsPass, PortsStop, AllPass, AllStop}
 use Rattle.ng_call.proofs.Files.{told_or_empty, told_read}
 use Rattle.ng_call.proofs.Ports.{fill, fill_read, stops_in_front}
 
@@ -73,3 +75,18 @@ module _ (old mid last : List ℕ → Contents) (before middle after : List ℕ 
     captures_are = passes.captures ∙ ap (λ (l : List Capture). l ++ captures_in passes.found) empty;
     writable = passes.writable;
   }
+
+-- a script and captures that are made
+pub made_pass : (n : ℕ) (script : List (When × Command)) (commands : List Command) (captures : List Capture)
+    → script ≡ commands_of made_script → commands ≡ map (λ timed. timed.1) (commands_of made_script)
+    → captures ≡ map (λ bytes. capture_in (Some bytes)) (made_captures n) → AreAllWritable captures
+    → (files : List ℕ → Contents) → AllPass files (Made n) script commands captures
+made_pass n script commands captures script_is commands_are captures_are writable files = record {
+  found = made n;
+  is_found = refl;
+  fine = refl;
+  script_is = script_is;
+  commands_are = commands_are;
+  captures_are = captures_are;
+  writable = subst AreAllWritable captures_are writable;
+}

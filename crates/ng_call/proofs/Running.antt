@@ -35,7 +35,7 @@ use Rattle.ng_args.specs.declared.words.Words.{Words}
 use Rattle.ng_call.specs.Said.{InForm}
 use Rattle.ng_call.specs.Found.{Found, AreRead, capture_in}
 use Rattle.ng_call.specs.Run.{setting_of, inputs_in, MayRun}
-use Rattle.ng_call.specs.Ends.{IsFound}
+use Rattle.ng_call.specs.Call.{IsFound}
 use Rattle.ng_call.specs.Parts.{AllPass, AreAllWritable}
 
 every_map : {A B : Type 0} (P : B → Type 0) (f : A → B) (xs : List A) → Every (λ x. P (f x)) xs → Every P (map f xs)
@@ -46,7 +46,7 @@ map_length : {A B : Type 0} (f : A → B) (xs : List A) → length (map f xs) �
 map_length f [] = refl
 map_length f (x ∷ xs) = ap suc (map_length f xs)
 
-every_all : {A : Type 0} (P : A → Type 0) (xs : List A) → Every P xs → All P xs
+pub every_all : {A : Type 0} (P : A → Type 0) (xs : List A) → Every P xs → All P xs
 every_all P [] all k d in_list = absurd (omega (arith, in_list))
 every_all P (x ∷ xs) all zero d in_list = all.0
 every_all P (x ∷ xs) all (suc k) d in_list = every_all P xs all.1 k d (omega (arith, in_list))

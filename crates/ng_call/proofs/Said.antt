@@ -160,11 +160,13 @@ fit_ports (Made packets) fits = (refl, (refl, (refl, tt)))
 form : (cut : Cut) (w : Words) → said cut ≡ Some w → are_words w ≡ true → InForm w
 form cut w is all =
     let parts = settled _ _ _ _ _ w is in
+    let workers = given_in_range 0 16 0 (value_of (codes "-w") cut.settings) w.workers (omega arith) (omega arith) parts.workers in
     let budget = given_in_range 1 10000000 1000000 (value_of (codes "-b") cut.settings) w.budget (omega arith) (omega arith) parts.budget in
     let fits = source_fits (value_of (codes "-g") cut.settings) cut.others w.source parts.source in
     let ports = and_left (are_ports w.own_name (ports_from w.source)) (are_files (written_files w) (read_files w)) all in
     let files = and_right (are_ports w.own_name (ports_from w.source)) (are_files (written_files w) (read_files w)) all in
     record {
+      workers = workers.1;
       some = budget.0;
       most = budget.1;
       own = given_name (value_of (codes "-n") cut.settings) w.own_name parts.own;

@@ -1,5 +1,5 @@
 -- Which sorts of faults steps and writes have.
-use Rattle.std.proofs.Common.{ℕ, ◌+◌, List, [], ◌∷◌, ◌++◌, Option, Some, None}
+use Rattle.std.proofs.Common.{ℕ, ◌+◌, List, [], ◌∷◌, Option, Some, None}
 use Rattle.ng_base.specs.declared.event.Event.{Event}
 use Rattle.ng_base.specs.declared.kind.Kind.{Kind}
 use Rattle.ng_machine.specs.World.{Port}
@@ -21,7 +21,7 @@ use Rattle.ng_call.specs.Found.{Found}
 use Rattle.ng_call.specs.Steps.{script_steps, capture_steps}
 use Rattle.ng_call.specs.Run.{world_in}
 use Rattle.ng_call.specs.Writes.{out_writes, out_write, journal_writes, writes_in}
-use Rattle.ng_call.specs.Ends.{names, steps_in}
+use Rattle.ng_call.specs.Call.{names, steps_in}
 use Rattle.ng_call.proofs.GivenSorts.{AreElse, captures_checked, captures_read, script_checked}
 
 module _ (P : Fault → Type 0) where

@@ -3,3 +3,4 @@ pub mod Lists
 pub mod Sorts
 pub mod Rows
 pub mod Each
+pub mod Behaves

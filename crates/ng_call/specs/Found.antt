@@ -25,6 +25,20 @@ AreRead files (port ∷ ports) (None ∷ captures) = (port.in_file ≡ []) × Ar
 AreRead files (port ∷ ports) (Some bytes ∷ captures) =
     (port.in_file ≢ []) × IsRead (files port.in_file) bytes × AreRead files ports captures
 
+-- the files tell these bytes; a missing one has none
+abbrev pub IsTold : Contents → List ℕ → Type 0
+IsTold NotTold bytes = ⊥
+IsTold NoFile bytes = bytes ≡ []
+IsTold (Holds held) bytes = held ≡ bytes
+
+abbrev pub TellPorts : (List ℕ → Contents) → List PortWord → List (Option (List ℕ)) → Type 0
+TellPorts files [] [] = Unit {0}
+TellPorts files [] (bytes ∷ captures) = ⊥
+TellPorts files (port ∷ ports) [] = ⊥
+TellPorts files (port ∷ ports) (None ∷ captures) = (port.in_file ≡ []) × TellPorts files ports captures
+TellPorts files (port ∷ ports) (Some bytes ∷ captures) =
+    (port.in_file ≢ []) × IsTold (files port.in_file) bytes × TellPorts files ports captures
+
 -- the capture that bytes are, and one without packets where there are none
 abbrev pub no_capture : Capture
 no_capture = record { kept = []; cut = None }

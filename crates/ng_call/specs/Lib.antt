@@ -2,9 +2,11 @@ pub mod ending
 pub mod Said
 pub mod Found
 pub mod Steps
+pub mod MadeInForm
 pub mod Run
 pub mod Writes
-pub mod Ends
+pub mod Call
 pub mod Parts
-pub mod Exactly
+pub mod Called
+pub mod Behaves
 pub mod Line

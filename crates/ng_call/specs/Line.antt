@@ -1,6 +1,7 @@
 -- The line that tells a fault, on standard error.
-use Rattle.std.specs.Prelude.{ℕ, List, [], ◌∷◌, ◌++◌, codes, slice_get, Option, Some, None}
-use Rattle.std.specs.Fmt.{decimal}
+use Rattle.std.specs.Prelude.{ℕ, ◌/◌, ◌%◌, nat_lt, false, ◌||◌, if◌then◌else◌, List, [], ◌∷◌, ◌++◌, codes, slice_get, Option, Some, None}
+use Rattle.std.specs.Fmt.{decimal, digit_glyph}
+use Rattle.std.specs.List.{flat_map}
 use Rattle.ng_pcap.specs.declared.fault.CaptureFault.{CaptureFault}
 use Rattle.ng_pcap.specs.declared.fault.CaptureFault.TheVariants.{ShortHeader, NoMagic, BadVersion, BadLink, TooLong, NoMemory as NoMemoryForCapture}
 use Rattle.ngctl_script.specs.declared.fault.ScriptFault.{ScriptFault}
@@ -80,14 +81,26 @@ file_name (of.Capture p) words = in_name (slice_get (ports_named words) p)
 file_name (of.Leaving p) words = out_name (slice_get (ports_named words) p)
 file_name of.Journal words = journal_named words
 
+-- How the name of a file is shown: a byte that is not printable ASCII by two digits of base 16, as in `\x1b`, and each other byte as
+-- it is. So no name moves the cursor of a terminal, or ends the line.
+
+abbrev pub two_digits : ℕ → List ℕ
+two_digits byte = digit_glyph false (byte / 16) ∷ digit_glyph false (byte % 16) ∷ []
+
+abbrev pub shown_byte : ℕ → List ℕ
+shown_byte byte = if nat_lt byte 0x20 || nat_lt 0x7e byte then codes "\\x" ++ two_digits byte else byte ∷ []
+
+abbrev pub shown : List ℕ → List ℕ
+shown name = flat_map shown_byte name
+
 -- what is said behind `ngrun: `
 abbrev pub fault_words : Fault → Option Words → List ℕ
 fault_words Usage words = usage_words
 fault_words (Script fault) words = script_words fault
 fault_words (Capture p why) words = codes "capture " ++ (port_name (slice_get (ports_named words) p) ++ (codes ": " ++ capture_words why))
-fault_words (TooBig which) words = codes "too big: " ++ file_name which words
-fault_words (ReadFault which) words = codes "can't read " ++ file_name which words
-fault_words (WriteFault which) words = codes "can't write " ++ file_name which words
+fault_words (TooBig which) words = codes "too big: " ++ shown (file_name which words)
+fault_words (ReadFault which) words = codes "can't read " ++ shown (file_name which words)
+fault_words (WriteFault which) words = codes "can't write " ++ shown (file_name which words)
 fault_words NoMemory words = codes "out of memory"
 
 abbrev pub line_feed : List ℕ

@@ -19,7 +19,7 @@ use Rattle.ng_call.specs.declared.ended.Fault.{Fault}
 use Rattle.ng_call.specs.declared.ended.Fault.TheVariants.{NoMemory, Script, Capture}
 use Rattle.ng_call.specs.Found.{Found, IsRead, AreRead, captures_in}
 use Rattle.ng_call.specs.Steps.{script_steps, capture_steps}
-use Rattle.ng_call.specs.Ends.{names, IsFound, steps_in}
+use Rattle.ng_call.specs.Call.{names, IsFound, steps_in}
 
 -- files before and after a part of the call, and nothing said of the sink
 abbrev pub of_files : (List ℕ → Contents) → (List ℕ → Contents) → (List ℕ → ℕ) → (List ℕ → ℕ) → Outside

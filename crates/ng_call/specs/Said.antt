@@ -17,6 +17,7 @@ IsInRange (FromFiles script ports) = Every HasName ports
 IsInRange (Made packets) = (1 ≤ packets) × (packets ≤ 100000)
 
 pub record InForm (w : Words) : Type 0 where
+  pub workers : w.workers ≤ 16
   pub some : 1 ≤ w.budget
   pub most : w.budget ≤ 10000000
   pub own : IsName w.own_name

@@ -5,6 +5,7 @@
 mod ended;
 pub mod ending;
 mod found;
+mod laws;
 mod line;
 mod made;
 mod names;
@@ -14,7 +15,8 @@ mod stopped;
 
 pub use ended::{Ended, Fault, Which};
 pub use found::{ReadIn, ReadScript, cuts_of};
-pub use line::{capture_words, fault_line, fault_words, script_words};
+pub use laws::made_is_in_form;
+pub use line::{capture_words, fault_line, fault_words, named, script_words};
 pub use made::read_made;
 pub use names::port_names;
 pub use read::{read_files, read_ports, read_script_file};

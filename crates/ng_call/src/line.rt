@@ -1,7 +1,7 @@
 // The line that tells a fault.
 ghost use Rattle.std.specs.Prelude.{◌≡◌, ◌++◌, codes, map, slice_get, string_bytes, IfOk, OnOk, OnErr};
 ghost use Rattle.ng_args.specs.Run.{words_of};
-ghost use Rattle.ng_call.specs.Line.{script_named, ports_named, journal_named, port_name, file_name, script_words, capture_words, fault_words, fault_line};
+ghost use Rattle.ng_call.specs.Line.{script_named, ports_named, journal_named, port_name, file_name, script_words, capture_words, two_digits, shown_byte, shown, fault_words, fault_line};
 
 use crate::{Fault, Which};
 use ng_args::{PortWord, Source, Words, read_words};
@@ -113,6 +113,41 @@ fn port_text(alloc: Global, words: &Option<Words>, port: u32) -> Result<Vec<u8>,
     }
 }
 
+// Puts a byte in two digits of base 16.
+#[tactic(auto, using(std::proofs::lemmas::Fmt::hex_byte))]
+fn put_digits(alloc: Global, said: &mut Vec<u8>, byte: u8) -> Result<(), AllocError>
+    ensures { OnOk result (said.new.items ≡ said.old.items ++ two_digits byte) }
+{
+    let digits = format!(in alloc; "{byte:02x}")?;
+    said.extend_from_slice(digits.as_bytes())
+}
+
+// Puts a byte of a name: by its digits where it is not printable.
+fn put_byte(alloc: Global, said: &mut Vec<u8>, byte: u8) -> Result<(), AllocError>
+    ensures { OnOk result (said.new.items ≡ said.old.items ++ shown_byte byte) }
+{
+    if byte < 0x20 || byte > 0x7e {
+        said.extend_from_slice(b"\\x")?;
+        return put_digits(alloc, said, byte);
+    }
+    said.push(byte)?;
+    Ok(())
+}
+
+/// Words, and behind them the name of a file as it is shown: a byte that is not printable ASCII by two digits of base 16.
+///
+/// # Errors
+/// Where memory ran out, and for nothing else.
+pub fn named(alloc: Global, text: &[u8], name: &str) -> Result<Vec<u8>, AllocError>
+    ensures { IfOk result (λ said. said.items ≡ text.now ++ shown name.now) }
+{
+    let mut said = Vec::from_slice(alloc, text)?;
+    for byte in name.as_bytes() {
+        put_byte(alloc, &mut said, *byte)?;
+    }
+    Ok(said)
+}
+
 /// What is said of a fault of a call with these words, without what stands before it on its line. A file or a port that the words
 /// do not have is told without a name.
 ///
@@ -141,15 +176,6 @@ pub fn fault_words(
         Fault::WriteFault(which) => named(alloc, b"can't write ", file_name(which, words)),
         Fault::NoMemory => Vec::from_slice(alloc, b"out of memory"),
     }
-}
-
-// Words and a name behind them.
-fn named(alloc: Global, text: &[u8], name: &str) -> Result<Vec<u8>, AllocError>
-    ensures { IfOk result (λ said. said.items ≡ text.now ++ name.now) }
-{
-    let mut said = Vec::from_slice(alloc, text)?;
-    said.extend_from_slice(name.as_bytes())?;
-    Ok(said)
 }
 
 // A capture by its port, and what is wrong with it.

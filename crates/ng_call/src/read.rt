@@ -7,7 +7,7 @@ ghost use Rattle.ng_pcap.specs.Writing.{IsWritable};
 ghost use Rattle.ng_args.specs.declared.words.Source.TheVariants.{FromFiles as from_files};
 ghost use Rattle.ng_call.specs.Found.{IsRead};
 ghost use Rattle.ng_call.specs.Steps.{script_steps, port_steps};
-ghost use Rattle.ng_call.specs.Ends.{names};
+ghost use Rattle.ng_call.specs.Call.{names};
 ghost use Rattle.ng_call.specs.Parts.{of_files, Stops, ScriptPasses, PortsPass, PortsStop, AllPass, AllStop};
 
 use crate::found::{ReadIn, ReadScript};

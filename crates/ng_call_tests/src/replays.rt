@@ -12,10 +12,11 @@ const JOURNAL: &[u8] = b"ngjournal 1\nF\nT 1 0\nA 1\nF\nT 2 0\nA 2\nT 3 0\nA 3\n
 fn an_output_that_fails_has_what_was_put_before(rt: HostRuntime) -> Result<(), Fail> {
     let alloc = rt.alloc();
     let words = words_in(alloc, "1000000 0 ngctl j s")?;
-    for (put, text) in [(1, ""), (3, "+ mkpeer . echo a b\n+ write a 1 2 3\n")] {
+    // A slow output takes a byte at a time.
+    for (is_slow, put, text) in [(false, 1, ""), (true, 3, "+ ")] {
         let given = [file("s", SCRIPT), file("j", JOURNAL)];
         let mut files = files_of(alloc, &given, ROOM, false, 0)?;
-        let mut out = sink(alloc, false, put)?;
+        let mut out = sink(alloc, is_slow, put)?;
         let boxes = stock(alloc)?;
         stock_suffices();
         let replayed = ngreplay(alloc, &words, &mut files, &mut out, boxes);

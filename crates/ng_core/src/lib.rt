@@ -18,4 +18,6 @@ mod taking;
 
 pub use fault::FeedFault;
 pub use machine::Core;
+pub use ng_core_state::{Done, Work};
+pub use ng_machine::{Fed, Input};
 pub use still::Still;

@@ -1,12 +1,13 @@
 // A core is made.
 ghost use Rattle.std.specs.Prelude.{◌≡◌, ℕ, ◌+◌, ◌<◌, ◌≤◌, All, [], ◌∷◌, true, length, map, replicate, Some, None, IfOk};
 ghost use Rattle.ng_machine.specs.LowRun.{most_budget, most_ports};
+ghost use Rattle.ng_machine.specs.Run.{beginning};
 ghost use Rattle.ng_machine.specs.State.{blank_of, kind_of};
 ghost use Rattle.ng_core.specs.Calls.{HasBoxes, most_boxes};
 ghost use Rattle.ng_base.specs.Names.{are_different};
 ghost use Rattle.ng_core.specs.Beginning.{begun_core, start_graph};
-ghost use Rattle.ng_core_state.specs.Stands.{port_of};
-ghost use Rattle.ng_machine.specs.World.{blank_port};
+ghost use Rattle.ng_core_state.specs.Stands.{Stands, port_of};
+ghost use Rattle.ng_machine.specs.World.{blank_port, start_of};
 
 use crate::Core;
 use crate::machine::Parts;
@@ -68,6 +69,30 @@ fn begin_ports(alloc: Global, count: usize) -> Result<Vec<Port>, NoMemory>
     Ok(ports)
 }
 
+// What stands for the world before any event.
+fn begin_state<B: Node>(
+    alloc: Global,
+    own: Name,
+    ports: &[Name],
+    stock: Vec<B>,
+) -> Result<State<B>, NoMemory>
+    requires blank { All (λ b. B.state b ≡ blank_of (kind_of (B.state b))) stock.items }
+    requires boxes { HasBoxes ports.now (map (λ b. kind_of (B.state b)) stock.items) }
+    requires names { are_different (own ∷ ports.now) ≡ true }
+    ensures { IfOk result (λ state. let kinds = map (λ b. kind_of (B.state b)) stock.items in
+        Stands state (beginning (start_of own ports.now kinds))) }
+{
+    let pending = Pending::new(alloc, stock.len() + 1)?;
+    let kept = begin_ports(alloc, ports.len())?;
+    let graph = begin_graph(alloc, own, ports, stock)?;
+    Ok(State {
+        graph,
+        pending,
+        told: Vec::new(alloc),
+        ports: kept,
+    })
+}
+
 impl<B: Node> Core<B> {
     /// The world before any event: node 1 is a socket of the own name, and an ether for each port follows, in the order of the
     /// ports. The boxes are blank nodes of their kinds; `budget` items at most are applied, by `seats` seats.
@@ -91,18 +116,10 @@ impl<B: Node> Core<B> {
         ensures { IfOk result (λ core. core ≡ begun_core own ports.items (map (λ b. kind_of (B.state b)) stock.items) budget seats) }
     {
         let kinds = kinds_of(alloc, &stock)?;
-        let pending = Pending::new(alloc, stock.len() + 1)?;
-        let kept = begin_ports(alloc, ports.len())?;
-        let graph = begin_graph(alloc, own, &ports, stock)?;
+        let state = begin_state(alloc, own, &ports, stock)?;
         let mut journal = Journal::new(alloc);
         journal.reserve(1)?;
         let gave_up = vec![in alloc; false; seats as usize]?;
-        let state = State {
-            graph,
-            pending,
-            told: Vec::new(alloc),
-            ports: kept,
-        };
         let parts = Parts {
             own,
             ports,

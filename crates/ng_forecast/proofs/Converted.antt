@@ -1,20 +1,16 @@
 -- What is read of a script and of captures is read as a run reads it, with the faults of a forecast.
-use Rattle.std.proofs.Common.{◌≡◌, ◌∙◌, inl, inr, ℕ, ◌+◌, Bool, true, false, nat_lt, if◌then◌else◌, List, [], ◌∷◌, ◌++◌, length, map, refl, sym, ap, subst}
-use Rattle.std.specs.Prelude.{option_map, Result}
+use Rattle.std.proofs.Common.{◌≡◌, ◌∙◌, inl, inr, ℕ, ◌+◌, Bool, true, false, nat_lt, if◌then◌else◌, List, [], ◌∷◌, ◌++◌, length, refl, sym, ap, subst}
+use Rattle.std.specs.Prelude.{option_map}
 use Rattle.std.specs.declared.option.Option.{Option}
 use Rattle.std.specs.declared.option.Option.TheVariants.{None, Some}
 use Rattle.ng_outside.specs.Contents.{Contents, NotTold, NoFile, Holds}
-use Rattle.ng_pcap.specs.declared.fault.CaptureFault.{CaptureFault}
 use Rattle.ng_pcap.specs.Reading.{capture_of}
-use Rattle.ngctl_script.specs.declared.fault.ScriptFault.{ScriptFault}
 use Rattle.ngctl_script.specs.Script.{script_fault}
 use Rattle.ng_args.specs.declared.port.PortWord.{PortWord}
 use Rattle.ng_call.specs.ending.Outside.{Outside}
 use Rattle.ng_call.specs.ending.Steps.{Step, Reads, Checks, unless_missing, first_fault, Refuses}
 use Rattle.ng_call.specs.declared.ended.Fault.{Fault}
-use Rattle.ng_call.specs.declared.ended.Fault.TheVariants as run
-use Rattle.ng_call.specs.declared.ended.Which.TheVariants as file
-use Rattle.ng_call.specs.Ends.{names as run_names}
+use Rattle.ng_call.specs.Call.{names as run_names}
 use Rattle.ng_call.specs.Steps.{over, fault_in, most_bytes, most_packets, most_script, packets_in, port_steps, script_steps, capture_steps}
 use Rattle.ng_forecast.specs.declared.ended.ForecastFault.{ForecastFault}
 use Rattle.ng_forecast.specs.Parts.{fault_of}

@@ -1,13 +1,13 @@
 -- How the parts of a forecast make its end.
-use Rattle.std.proofs.Common.{◌≡◌, ◌⊎◌, inl, inr, ◌∙◌, ℕ, ◌≤◌, List, [], ◌∷◌, ◌++◌, map, Bool, true, false, if◌then◌else◌, refl, sym, ap, subst}
+use Rattle.std.proofs.Common.{◌≡◌, ◌⊎◌, inl, inr, ◌∙◌, ℕ, List, [], ◌∷◌, map, Bool, true, false, if◌then◌else◌, refl, sym, ap, subst}
 use Rattle.std.specs.Io.KnownBytes.{Appends}
 use Rattle.std.specs.declared.option.Option.{Option}
 use Rattle.std.specs.declared.option.Option.TheVariants.{None, Some}
 use Rattle.ng_base.specs.declared.event.Event.{Event}
 use Rattle.ng_base.specs.declared.kind.Kind.{Kind}
 use Rattle.ng_machine.specs.Laws.{world_after}
-use Rattle.ng_machine.specs.World.{World, NodeRecord}
-use Rattle.ng_machine.specs.Spread.{Spread, Flight, spread_all, spread_in, spread_of_all}
+use Rattle.ng_machine.specs.World.{NodeRecord}
+use Rattle.ng_machine.specs.Spread.{Spread, Flight, spread_all, spread_in}
 use Rattle.ng_machine.proofs.Reached.{plain_is_there}
 use Rattle.ng_outside.specs.Contents.{Contents}
 use Rattle.ng_outside.specs.Count.{Rose}
@@ -16,7 +16,7 @@ use Rattle.ng_pcap.specs.declared.capture.Capture.{Capture as ReadCapture}
 use Rattle.ngctl_script.specs.feed.Inputs.{Timed}
 use Rattle.ng_args.specs.declared.words.ForecastWords.{ForecastWords}
 use Rattle.ng_call.specs.ending.Outside.{Outside, Same}
-use Rattle.ng_call.specs.ending.Steps.{Step, Checks, first_fault, Refuses}
+use Rattle.ng_call.specs.ending.Steps.{Checks, first_fault, Refuses}
 use Rattle.ng_call.proofs.ending.Lists.{first_behind, refuses_behind, refuses_in_front, refuses_within}
 use Rattle.ng_call.specs.Parts.{counting, of_files, outside, storing}
 use Rattle.ng_forecast.specs.declared.ended.ForecastFault.{ForecastFault}
@@ -26,7 +26,8 @@ use Rattle.ng_forecast.specs.Steps.{IsRun, flights_in, flights_of, forecast_step
 use Rattle.ng_call.specs.Writes.{is_stopped}
 use Rattle.ngctl_script.specs.Script.{commands_of}
 use Rattle.ng_forecast.specs.Text.{bag_text}
-use Rattle.ng_forecast.specs.Ends.{EndsBy, EndsWith, fault_status, world_in}
+use Rattle.ng_forecast.specs.Call.{fault_status, world_in}
+use Rattle.ng_forecast.specs.Ends.{ForecastEnds}
 use Rattle.ng_forecast.proofs.Reading.{memory_stops}
 use Rattle.ng_forecast.specs.Parts.{IsForetold, IsForetoldOf, IsNotForetold, IsReadIn, IsRefusedOf, ReadStops, untold}
 
@@ -143,17 +144,17 @@ packets_foretold kinds words script flights journal nodes bag run calm world fin
 -- nothing was written
 pub ends_refused : (kinds : List Kind) (words : ForecastWords) (old now : List ℕ → Contents) (before after : List ℕ → ℕ) (fault : ForecastFault)
     → now ≡ old → IsNotForetold kinds (of_files old now before after) words fault
-    → (sink : Option (List ℕ)) (sb sa : ℕ) → EndsWith kinds words (outside (storing sink old) (storing sink now) (counting sb before) (counting sa after)) (fault_status fault) [] (Some fault)
+    → (sink : Option (List ℕ)) (sb sa : ℕ) → ForecastEnds kinds (Some words) (outside (storing sink old) (storing sink now) (counting sb before) (counting sa after)) (fault_status fault) [] (Some fault)
 ends_refused kinds words old now before after fault same f sink sb sa = record {
-  found = f.found;
-  is_found = f.is_found;
-  journal = f.journal;
-  is_run = f.is_run;
   made = [];
-  ends = inl (record { nothing = refl; same = record { sink = refl; files = same }; cause = by f.stops });
+  ends = record {
+    input = record { found = f.found; journal = f.journal };
+    is_found = (f.is_found, f.is_run);
+    ends = inl (record { nothing = refl; same = record { sink = refl; files = same }; cause = by f.stops });
+    status_is = refl;
+  };
   bag_is = refl;
   unwritten = λ memory. record { sink = refl; files = same };
-  status_is = refl;
 }
   where
     by : (fault ≡ NoMemory) ⊎ Refuses (of_files old now before after) (forecast_steps (world_in kinds words f.found f.journal) f.journal words f.found) fault
@@ -166,71 +167,81 @@ ends_refused kinds words old now before after fault same f sink sb sa = record {
 module _ (kinds : List Kind) (words : ForecastWords) (old now : List ℕ → Contents) (before after : List ℕ → ℕ) (bag : Spread) (same : now ≡ old) (f : IsForetold kinds old words bag)
     (sink last : Option (List ℕ)) (sb sa : ℕ) where
   -- memory ran out for the text
-  pub ends_untold : last ≡ sink → EndsWith kinds words (outside (storing sink old) (storing last now) (counting sb before) (counting sa after)) (fault_status NoMemory) [] (Some NoMemory)
+  pub ends_untold : last ≡ sink → ForecastEnds kinds (Some words) (outside (storing sink old) (storing last now) (counting sb before) (counting sa after)) (fault_status NoMemory) [] (Some NoMemory)
   ends_untold is = record {
-    found = f.found;
-    is_found = f.is_found;
-    journal = f.journal;
-    is_run = f.is_run;
     made = [];
-    ends = inl (record { nothing = refl; same = record { sink = is; files = same }; cause = inl refl });
+    ends = record {
+      input = record { found = f.found; journal = f.journal };
+      is_found = (f.is_found, f.is_run);
+      ends = inl (record { nothing = refl; same = record { sink = is; files = same }; cause = inl refl });
+      status_is = refl;
+    };
     bag_is = refl;
     unwritten = λ memory. record { sink = is; files = same };
-    status_is = refl;
   }
 
   -- the text was not written whole
   pub ends_stopped : (text : List ℕ) → text ≡ bag_text (map (λ port. port.name) words.ports) bag → AppendsPrefix sink last text → Rose sb sa
-      → EndsWith kinds words (outside (storing sink old) (storing last now) (counting sb before) (counting sa after)) (fault_status WriteFault) [] (Some WriteFault)
+      → ForecastEnds kinds (Some words) (outside (storing sink old) (storing last now) (counting sb before) (counting sa after)) (fault_status WriteFault) [] (Some WriteFault)
   ends_stopped text is prefix rose = record {
-    found = f.found;
-    is_found = f.is_found;
-    journal = f.journal;
-    is_run = f.is_run;
     made = bag;
-    ends = inr (inr (record { passed = f.fine; ran = f.bag_is; stops = inl (inr (refl, rose), (subst (λ (t : List ℕ). AppendsPrefix sink last t) is prefix, same)) }));
+    ends = record {
+      input = record { found = f.found; journal = f.journal };
+      is_found = (f.is_found, f.is_run);
+      ends = inr (inr (record { passed = f.fine; ran = f.bag_is; stops = inl (inr (refl, rose), (subst (λ (t : List ℕ). AppendsPrefix sink last t) is prefix, same)) }));
+      status_is = refl;
+    };
     bag_is = refl;
     unwritten = λ memory. cc memory;
-    status_is = refl;
   }
 
   -- all was done
   pub ends_told : (text : List ℕ) → text ≡ bag_text (map (λ port. port.name) words.ports) bag → Appends sink last text
-      → EndsWith kinds words (outside (storing sink old) (storing last now) (counting sb before) (counting sa after)) 0 bag None
+      → ForecastEnds kinds (Some words) (outside (storing sink old) (storing last now) (counting sb before) (counting sa after)) 0 bag None
   ends_told text is whole = record {
-    found = f.found;
-    is_found = f.is_found;
-    journal = f.journal;
-    is_run = f.is_run;
     made = bag;
     ends = record {
-      passed = f.fine;
-      ran = f.bag_is;
-      written = (storing last now, (subst (λ (t : List ℕ). Appends sink last t) is whole, same), record { sink = refl; files = refl });
+      input = record { found = f.found; journal = f.journal };
+      is_found = (f.is_found, f.is_run);
+      ends = record {
+        passed = f.fine;
+        ran = f.bag_is;
+        written = (storing last now, (subst (λ (t : List ℕ). Appends sink last t) is whole, same), record { sink = refl; files = refl });
+      };
+      status_is = refl;
     };
     bag_is = refl;
     unwritten = λ memory. cc memory;
-    status_is = refl;
   }
 
 -- words that are not in form, and memory that ran out before they were known
-pub ends_unread : (kinds : List Kind) (said : Option ForecastWords) (o : Outside) → Same o.old o.now → EndsBy kinds said o 71 [] (Some NoMemory)
-ends_unread kinds None o same = record { ends = inl (record { nothing = refl; same = same; cause = inl refl }); status_is = refl }
+pub ends_unread : (kinds : List Kind) (said : Option ForecastWords) (o : Outside) → Same o.old o.now → ForecastEnds kinds said o 71 [] (Some NoMemory)
+ends_unread kinds None o same = record {
+  made = [];
+  ends = record { nothing = refl; same = same; cause = inr refl; status_is = refl };
+  bag_is = refl;
+  unwritten = λ memory. same;
+}
 ends_unread kinds (Some words) o same =
     let r = memory_stops o words in
     let f = unread kinds o words NoMemory r in
     record {
-      found = f.found;
-      is_found = f.is_found;
-      journal = f.journal;
-      is_run = f.is_run;
       made = [];
-      ends = inl (record { nothing = refl; same = same; cause = inl refl });
+      ends = record {
+        input = record { found = f.found; journal = f.journal };
+        is_found = (f.is_found, f.is_run);
+        ends = inl (record { nothing = refl; same = same; cause = inl refl });
+        status_is = refl;
+      };
       bag_is = refl;
       unwritten = λ memory. same;
-      status_is = refl;
     }
 
-pub ends_usage : (kinds : List Kind) (said : Option ForecastWords) (o : Outside) → said ≡ None → Same o.old o.now → EndsBy kinds said o 64 [] (Some Usage)
-ends_usage kinds None o none same = record { ends = inl (record { nothing = refl; same = same; cause = inr refl }); status_is = refl }
+pub ends_usage : (kinds : List Kind) (said : Option ForecastWords) (o : Outside) → said ≡ None → Same o.old o.now → ForecastEnds kinds said o 64 [] (Some Usage)
+ends_usage kinds None o none same = record {
+  made = [];
+  ends = record { nothing = refl; same = same; cause = inl refl; status_is = refl };
+  bag_is = refl;
+  unwritten = λ memory. same;
+}
 ends_usage kinds (Some words) o none same = absurd (cc none)

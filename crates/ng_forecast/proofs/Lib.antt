@@ -5,4 +5,5 @@ pub mod Converted
 pub mod Reading
 pub mod Ending
 pub mod Sorts
-pub mod Exactly
+pub mod Counting
+pub mod Behaves

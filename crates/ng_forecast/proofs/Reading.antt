@@ -1,5 +1,5 @@
 -- The script, no command between packets, and the captures behind them.
-use Rattle.std.proofs.Common.{◌≡◌, ◌⊎◌, inl, inr, ◌∙◌, ℕ, ◌≤◌, suc, List, [], ◌∷◌, ◌++◌, length, refl, sym, ap, subst}
+use Rattle.std.proofs.Common.{◌≡◌, inl, inr, ◌∙◌, ℕ, ◌≤◌, suc, List, [], ◌∷◌, ◌++◌, length, refl, sym, ap, subst}
 use Rattle.std.specs.Prelude.{option_map}
 use Rattle.std.specs.declared.option.Option.{Option}
 use Rattle.std.specs.declared.option.Option.TheVariants.{None, Some}
@@ -7,7 +7,6 @@ use Rattle.std.proofs.lemmas.List.{length-map}
 use Rattle.ng_machine.specs.declared.command.Command.{Command}
 use Rattle.ng_outside.specs.Contents.{Contents}
 use Rattle.ng_pcap.specs.declared.capture.Capture.{Capture as ReadCapture}
-use Rattle.ngctl_script.specs.declared.when.When.{When}
 use Rattle.ngctl_script.specs.Script.{commands_of}
 use Rattle.ngctl_script.specs.feed.Inputs.{Timed}
 use Rattle.ng_args.specs.declared.port.PortWord.{PortWord}
@@ -17,7 +16,7 @@ use Rattle.ng_call.specs.ending.Steps.{Step, Checks, first_fault, Refuses}
 use Rattle.ng_call.proofs.ending.Lists.{first_behind, refuses_behind, refuses_in_front, refuses_within}
 use Rattle.ng_call.proofs.ending.Counts.{rose_since}
 use Rattle.ng_call.specs.declared.ended.Fault.{Fault}
-use Rattle.ng_call.specs.Ends.{names as run_names}
+use Rattle.ng_call.specs.Call.{names as run_names}
 use Rattle.ng_call.specs.Found.{Found, IsRead, AreRead, capture_in, captures_in}
 use Rattle.ng_call.specs.Parts.{AreAllWritable, of_files, Stops as RunStops, ScriptPasses, PortsPass, PortsStop}
 use Rattle.ng_call.specs.Steps.{script_steps, capture_steps}

@@ -7,10 +7,11 @@ use Rattle.ng_base.specs.declared.event.Event.{Event}
 use Rattle.ng_machine.specs.World.{World, NodeRecord}
 use Rattle.ng_machine.specs.Spread.{Flight, Spread, spread_in}
 use Rattle.ng_pcap.specs.declared.fault.CaptureFault.{CaptureFault}
+use Rattle.ng_pcap.specs.Reading.{capture_of}
 use Rattle.ng_forecast.specs.spread.Met.{met_in}
 use Rattle.ng_forecast.specs.spread.Weight.{weight}
 use Rattle.ngctl_script.specs.declared.fault.ScriptFault.{ScriptFault}
-use Rattle.ngctl_script.specs.Script.{commands_of}
+use Rattle.ngctl_script.specs.Script.{commands_of, script_fault}
 use Rattle.ng_args.specs.declared.port.PortWord.{PortWord}
 use Rattle.ng_args.specs.declared.words.ForecastWords.{ForecastWords}
 use Rattle.ng_call.specs.ending.Causes.{FailsReading, NoneChecked, NoneReads}
@@ -19,7 +20,7 @@ use Rattle.ng_call.specs.ending.Steps.{Step, Reads, Checks}
 use Rattle.ng_call.proofs.ending.Sorts.{both_checked, both_reads, if_checked, map_checked}
 use Rattle.ng_call.specs.Found.{Found}
 use Rattle.ng_call.specs.Line.{in_name}
-use Rattle.ng_call.specs.Steps.{script_steps, capture_steps, packets_in}
+use Rattle.ng_call.specs.Steps.{script_steps, capture_steps, packets_in, fault_in, over, most_script, most_bytes, most_packets}
 use Rattle.ng_call.specs.Writes.{is_stopped}
 use Rattle.ng_call.proofs.GivenSorts.{AreElse as AreGivenElse, captures_checked, captures_read, script_checked}
 use Rattle.ng_forecast.specs.declared.ended.ForecastFault.{ForecastFault}
@@ -111,13 +112,25 @@ module _ (P : ForecastFault → Type 0) where
 
 -- The file whose read failed
 
+-- a read that failed stands in front of every fault that is there
+past : (o : Outside) (found : Option ForecastFault) (steps : List (Step ForecastFault)) (fault : ForecastFault)
+    → FailsReading o (Checks found ∷ steps) fault → FailsReading o steps fault
+past o None steps fault failed = failed
+past o (Some found) steps fault failed = absurd failed
+
+past_all : (o : Outside) (a b c : Option ForecastFault) (steps : List (Step ForecastFault)) (fault : ForecastFault)
+    → FailsReading o (Checks a ∷ Checks b ∷ Checks c ∷ steps) fault → FailsReading o steps fault
+past_all o a b c steps fault failed =
+    past o c steps fault (past o b (Checks c ∷ steps) fault (past o a (Checks b ∷ Checks c ∷ steps) fault failed))
+
 -- what comes behind reads nothing
 late_unread : (o : Outside) (a : List (Step ForecastFault)) (x y : Option ForecastFault) (fault : ForecastFault)
     → FailsReading o (a ++ Checks x ∷ Checks y ∷ []) fault → FailsReading o a fault
-late_unread o [] x y fault failed = failed
+late_unread o [] x y fault failed = past o y [] fault (past o x (Checks y ∷ []) fault failed)
 late_unread o (Reads name is ∷ a) x y fault (inl failed) = inl failed
-late_unread o (Reads name is ∷ a) x y fault (inr failed) = inr (late_unread o a x y fault failed)
-late_unread o (Checks found ∷ a) x y fault failed = late_unread o a x y fault failed
+late_unread o (Reads name is ∷ a) x y fault (inr failed) = inr (failed.0, late_unread o a x y fault failed.1)
+late_unread o (Checks None ∷ a) x y fault failed = late_unread o a x y fault failed
+late_unread o (Checks (Some found) ∷ a) x y fault failed = absurd failed
 
 -- a capture's is the one that the word of its port names
 record IsOfPort (o : Outside) (ports : List PortWord) (p : ℕ) (source : Source) : Type 0 where
@@ -146,7 +159,11 @@ captures_fail o source p bytes packets (port ∷ ports) (Some held ∷ captures)
     let same : source ≡ of.Capture p = cc failed.0 in
     record { port = 0; source_is = subst (λ (n : ℕ). source ≡ of.Capture n) here same; rose = failed.1 }
 captures_fail o source p bytes packets (port ∷ ports) (Some held ∷ captures) (inr failed) =
-    of_later o port ports p source (captures_fail o source (p + 1) (bytes + length held) (packets + packets_in held) ports captures failed)
+    let later =
+    past_all o (over most_bytes (bytes + length held) (TooBig (of.Capture p))) (option_map (λ why. Capture p why) (fault_in (capture_of held)))
+    (over most_packets (packets + packets_in held) (TooBig (of.Capture p)))
+    (capture_steps names (p + 1) (bytes + length held) (packets + packets_in held) ports captures) (ReadFault source) failed.1 in
+    of_later o port ports p source (captures_fail o source (p + 1) (bytes + length held) (packets + packets_in held) ports captures later)
 
 named : (o : Outside) (words : ForecastWords) (source : Source) → IsOfPort o words.ports 0 source → FileRose o (file_name source (Some words))
 named o words source is =
@@ -158,7 +175,12 @@ read_named : (o : Outside) (words : ForecastWords) (found : Found) (source : Sou
 read_named o words found source (inl failed) =
     let same : source ≡ of.Script = cc failed.0 in
     subst (λ (s : Source). FileRose o (file_name s (Some words))) (sym same) failed.1
-read_named o words found source (inr failed) = named o words source (captures_fail o source 0 0 0 words.ports found.captures failed)
+read_named o words found source (inr failed) =
+    named o words source
+    (captures_fail o source 0 0 0 words.ports found.captures
+    (past_all o (over most_script (length found.script) (TooBig of.Script)) (option_map (λ fault. Script fault) (script_fault found.script))
+    (option_map (λ command. Moving command) (moving (commands_of found.script))) (capture_steps names 0 0 0 words.ports found.captures)
+    (ReadFault source) failed.1))
 
 pub file_rose : (o : Outside) (w : World) (journal : List Event) (words : ForecastWords) (found : Found) (source : Source)
     → FailsReading o (forecast_steps w journal words found) (ReadFault source) → FileRose o (file_name source (Some words))

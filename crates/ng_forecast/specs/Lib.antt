@@ -4,7 +4,9 @@ pub mod Moving
 pub mod Packets
 pub mod Steps
 pub mod Text
+pub mod Counts
+pub mod Call
 pub mod Ends
 pub mod Parts
 pub mod Line
-pub mod Exactly
+pub mod Behaves

@@ -1,9 +1,9 @@
 -- The line that tells a fault of a forecast, on standard error.
-use Rattle.std.specs.Prelude.{ℕ, List, [], ◌∷◌, ◌++◌, codes, slice_get, Option, Some, None}
+use Rattle.std.specs.Prelude.{ℕ, List, [], ◌++◌, codes, slice_get, Option, Some, None}
 use Rattle.std.specs.Fmt.{decimal}
 use Rattle.ng_args.specs.declared.port.PortWord.{PortWord}
 use Rattle.ng_args.specs.declared.words.ForecastWords.{ForecastWords}
-use Rattle.ng_call.specs.Line.{script_words, capture_words, port_name, in_name, line_feed}
+use Rattle.ng_call.specs.Line.{script_words, capture_words, port_name, in_name, shown, line_feed}
 use Rattle.ng_forecast.specs.declared.ended.ForecastFault.{ForecastFault}
 use Rattle.ng_forecast.specs.declared.ended.ForecastFault.TheVariants.{Usage, Script, Capture, TooBig, ReadFault, WriteFault, Moving, Restless, Wide, Undefined, Big, NoMemory}
 use Rattle.ng_forecast.specs.declared.ended.Source.{Source}
@@ -34,8 +34,8 @@ abbrev pub fault_words : ForecastFault → Option ForecastWords → List ℕ
 fault_words Usage words = usage_words
 fault_words (Script fault) words = script_words fault
 fault_words (Capture p why) words = codes "capture " ++ (port_name (slice_get (ports_named words) p) ++ (codes ": " ++ capture_words why))
-fault_words (TooBig source) words = codes "too big: " ++ file_name source words
-fault_words (ReadFault source) words = codes "can't read " ++ file_name source words
+fault_words (TooBig source) words = codes "too big: " ++ shown (file_name source words)
+fault_words (ReadFault source) words = codes "can't read " ++ shown (file_name source words)
 fault_words WriteFault words = codes "can't write output"
 fault_words (Moving command) words = refused (codes "moving at command " ++ decimal command)
 fault_words Restless words = refused (codes "restless")

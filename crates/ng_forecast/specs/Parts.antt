@@ -1,5 +1,5 @@
 -- What the parts of a forecast promise each other.
-use Rattle.std.specs.Prelude.{◌≡◌, ◌⊎◌, ℕ, List, Option, Some, None}
+use Rattle.std.specs.Prelude.{◌≡◌, ◌⊎◌, ℕ, List, Some, None}
 use Rattle.ng_base.specs.declared.event.Event.{Event}
 use Rattle.ng_base.specs.declared.kind.Kind.{Kind}
 use Rattle.ng_machine.specs.Laws.{world_after}
@@ -22,7 +22,7 @@ use Rattle.ng_forecast.specs.declared.ended.ForecastFault.TheVariants.{Usage, Sc
 use Rattle.ng_forecast.specs.declared.ended.Source.{Source}
 use Rattle.ng_forecast.specs.declared.ended.Source.TheVariants as of
 use Rattle.ng_forecast.specs.Steps.{setting_of, setting_in, IsRun, read_steps, late_steps, forecast_steps}
-use Rattle.ng_forecast.specs.Ends.{IsFound, IsBag, world_in}
+use Rattle.ng_forecast.specs.Call.{IsFound, IsBag, world_in}
 
 -- A fault of reading as a run tells it, in the words of a forecast, which reads no other files than these two.
 

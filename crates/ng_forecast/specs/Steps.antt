@@ -1,8 +1,8 @@
 -- What a forecast looks for, in order: in the script, in the captures, in the run of the commands, in each packet.
-use Rattle.std.specs.Prelude.{◌≡◌, ℕ, if◌then◌else◌, List, [], ◌∷◌, ◌++◌, map, option_map, Option, Some, None}
+use Rattle.std.specs.Prelude.{ℕ, if◌then◌else◌, List, [], ◌∷◌, ◌++◌, map, option_map, Option, Some, None}
 use Rattle.ng_base.specs.declared.event.Event.{Event}
 use Rattle.ng_base.specs.declared.kind.Kind.{Kind}
-use Rattle.ng_machine.specs.Laws.{Setting, start, world_after}
+use Rattle.ng_machine.specs.Laws.{Setting, start}
 use Rattle.ng_machine.specs.Plain.{IsPlain}
 use Rattle.ng_machine.specs.World.{World}
 use Rattle.ng_machine.specs.Spread.{Flight}

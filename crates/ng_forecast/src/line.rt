@@ -8,7 +8,7 @@ ghost use Rattle.ng_forecast.specs.Line.{fault_line, fault_words, file_name, por
 use crate::{ForecastFault, Source};
 use ng_args::{ForecastWords, PortWord, read_forecast_words};
 use ng_base::NoMemory;
-use ng_call::{capture_words, script_words};
+use ng_call::{capture_words, named, script_words};
 use std::alloc::{AllocError, Global};
 
 const USAGE: &str = "usage: ngrun --forecast HOPS NAME SCRIPT [PORT=IN ..]";
@@ -54,15 +54,6 @@ fn port_text(alloc: Global, words: &Option<ForecastWords>, port: u32) -> Result<
         Some(port) => Vec::from_slice(alloc, port.name.bytes()),
         None => Ok(Vec::new(alloc)),
     }
-}
-
-// Words and a name behind them.
-fn named(alloc: Global, text: &[u8], name: &str) -> Result<Vec<u8>, AllocError>
-    ensures { IfOk result (λ said. said.items ≡ text.now ++ name.now) }
-{
-    let mut said = Vec::from_slice(alloc, text)?;
-    said.extend_from_slice(name.as_bytes())?;
-    Ok(said)
 }
 
 // A capture by its port, and what is wrong with it.

@@ -1,38 +1,83 @@
 // The text of a forecast.
-ghost use Rattle.std.specs.Prelude.{◌≡◌, ◌++◌, ◌<◌, ◌≤◌, ◌+◌, ◌^◌, map, length, OnOk, IfOk};
+ghost use Rattle.std.specs.Prelude.{◌≡◌, ◌++◌, ◌<◌, ◌≤◌, ◌+◌, ◌^◌, ◌==◌, ℕ, List, [], map, length, slice_index, if◌then◌else◌, OnOk, IfOk};
 ghost use Rattle.std.specs.List.{flat_map};
-ghost use Rattle.ng_machine.specs.Spread.{same_place};
-ghost use Rattle.ng_machine.specs.declared.place.Place.TheVariants.{Reader};
-ghost use Rattle.ng_forecast.specs.Text.{bag_text, count_at, hook_line, hooks_from, port_line, port_lines, reader_hooks, with_name, with_place};
+ghost use Rattle.std.specs.Str.{bytes_eq};
+ghost use Rattle.std.specs.BTreeMap.{keys};
+ghost use Rattle.ng_machine.specs.Spread.{Spread};
+ghost use Rattle.ng_forecast.specs.Counts.{AreCounts, CountsOne, HaveRoom, hook_count};
+ghost use Rattle.ng_forecast.specs.Text.{bag_text, hook_line, port_line, port_lines, with_name};
 
 use ng_args::PortWord;
 use ng_base::{Name, NoMemory, Packet};
 use ng_machine::Place;
 use std::alloc::Global;
-use std::cmp::Ordering;
+use std::collections::BTreeMap;
 
-fn same_place(a: &Place, b: &Place) -> bool
-    ensures { result ≡ same_place a.now b.now }
+// How many packets leave by the wire of each port, go up to its host, and go to the reader by each hook.
+#[derive(Drop)]
+struct Counts {
+    left: [u64; 64],
+    up: [u64; 64],
+    hooks: BTreeMap<Name, u64>,
+}
+
+// One more at a port, where it is one of these.
+fn count_port(counts: &mut [u64; 64], port: u32)
+    requires { (k : ℕ) → k < 64 → slice_index counts.old k + 1 < 2 ^ 64 }
+    ensures { (k : ℕ) → k < 64
+        → slice_index counts.new k ≡ (if k == port then 1 else 0) + slice_index counts.old k }
 {
-    match (a, b) {
-        (Place::Wire(a), Place::Wire(b)) => a == b,
-        (Place::Host(a), Place::Host(b)) => a == b,
-        (Place::Reader(a), Place::Reader(b)) => a.bytes() == b.bytes(),
-        _ => false,
+    let port = port as usize;
+    if port < 64 {
+        counts[port] += 1;
     }
 }
 
-// How many packets are at a place.
-fn count_at(place: &Place, bag: &[(Place, Packet)]) -> u64
-    ensures { result ≡ count_at place.now bag.now }
+// One more for a hook.
+fn count_hook(hooks: &mut BTreeMap<Name, u64>, hook: &Name) -> Result<(), NoMemory>
+    requires { hook_count hooks.old hook.now + 1 < 2 ^ 64 }
+    ensures count { OnOk result ((name : List ℕ)
+        → hook_count hooks.new name ≡ (if bytes_eq name hook.now then 1 else 0) + hook_count hooks.old name) }
+    ensures names { OnOk result (keys hooks.new ≡ with_name hook.now (keys hooks.old)) }
 {
-    let mut count = 0;
-    for (other, _) in bag {
-        if same_place(place, other) {
-            count += 1;
-        }
+    let count = hooks.get(hook).copied().unwrap_or(0);
+    hooks.insert(*hook, count + 1)?;
+    Ok(())
+}
+
+// Another packet at a place.
+fn count_place(counts: &mut Counts, place: &Place) -> Result<(), NoMemory>
+    requires { HaveRoom counts.old }
+    ensures { OnOk result (CountsOne place.now counts.old counts.new) }
+{
+    match place {
+        Place::Wire(port) => count_port(&mut counts.left, *port),
+        Place::Host(port) => count_port(&mut counts.up, *port),
+        Place::Reader(hook) => count_hook(&mut counts.hooks, hook)?,
     }
-    count
+    Ok(())
+}
+
+// Nothing is counted so far.
+fn no_counts(alloc: Global) -> Counts
+    ensures { AreCounts result [] }
+{
+    Counts {
+        left: [0; 64],
+        up: [0; 64],
+        hooks: BTreeMap::new(alloc),
+    }
+}
+
+// How many packets are at each place.
+fn count_all(alloc: Global, bag: &[(Place, Packet)]) -> Result<Counts, NoMemory>
+    ensures { IfOk result (λ counts. AreCounts counts bag.now) }
+{
+    let mut counts = no_counts(alloc);
+    for (place, _) in bag {
+        count_place(&mut counts, place)?;
+    }
+    Ok(counts)
 }
 
 fn put_port_line(
@@ -70,62 +115,24 @@ fn put_ports(
     alloc: Global,
     text: &mut Vec<u8>,
     ports: &[PortWord],
-    bag: &[(Place, Packet)],
+    counts: &Counts,
 ) -> Result<(), NoMemory>
     requires { length ports.now ≤ 64 }
-    ensures { OnOk result (text.new.items ≡ text.old.items ++ port_lines 0 (map (λ port. port.name) ports.now) bag.now) }
+    ensures { OnOk result ((bag : Spread) → AreCounts counts.now bag
+        → text.new.items ≡ text.old.items ++ port_lines 0 (map (λ port. port.name) ports.now) bag) }
 {
     for i in 0..ports.len() {
-        let port = i as u32;
-        let left = count_at(&Place::Wire(port), bag);
-        let up = count_at(&Place::Host(port), bag);
-        put_port_line(alloc, text, &ports[i].name, left, up)?;
+        put_port_line(alloc, text, &ports[i].name, counts.left[i], counts.up[i])?;
     }
     Ok(())
 }
 
-// A name is put where it belongs in the order of bytes, unless it is there.
-fn enter(names: &mut Vec<Name>, name: Name) -> Result<(), NoMemory>
-    ensures { OnOk result (names.new.items ≡ with_name name names.old.items) }
+fn put_hooks(alloc: Global, text: &mut Vec<u8>, hooks: &BTreeMap<Name, u64>) -> Result<(), NoMemory>
+    ensures { OnOk result (text.new.items
+        ≡ text.old.items ++ flat_map (λ name. hook_line name (hook_count hooks.now name)) (keys hooks.now)) }
 {
-    for i in 0..names.len() {
-        match name.cmp(&names[i]) {
-            Ordering::Less => {
-                names.insert(i, name)?;
-                return Ok(());
-            }
-            Ordering::Equal => return Ok(()),
-            Ordering::Greater => {}
-        }
-    }
-    names.push(name)?;
-    Ok(())
-}
-
-// The hooks by which packets go to the reader.
-fn reader_hooks(alloc: Global, bag: &[(Place, Packet)]) -> Result<Vec<Name>, NoMemory>
-    ensures { IfOk result (λ hooks. hooks.items ≡ reader_hooks bag.now) }
-{
-    let mut hooks = Vec::new(alloc);
-    for (place, _) in bag {
-        if let Place::Reader(hook) = place {
-            enter(&mut hooks, *hook)?;
-        }
-    }
-    Ok(hooks)
-}
-
-fn put_hooks(
-    alloc: Global,
-    text: &mut Vec<u8>,
-    hooks: &[Name],
-    bag: &[(Place, Packet)],
-) -> Result<(), NoMemory>
-    ensures { OnOk result (text.new.items ≡ text.old.items ++ flat_map (λ hook. hook_line hook (count_at (Reader hook) bag.now)) hooks.now) }
-{
-    for hook in hooks {
-        let packets = count_at(&Place::Reader(*hook), bag);
-        put_hook_line(alloc, text, hook, packets)?;
+    for (name, packets) in hooks {
+        put_hook_line(alloc, text, name, *packets)?;
     }
     Ok(())
 }
@@ -142,9 +149,9 @@ pub(crate) fn bag_text(
     requires { length ports.now ≤ 64 }
     ensures { IfOk result (λ text. text.items ≡ bag_text (map (λ port. port.name) ports.now) bag.now) }
 {
+    let counts = count_all(alloc, bag)?;
     let mut text = Vec::new(alloc);
-    put_ports(alloc, &mut text, ports, bag)?;
-    let hooks = reader_hooks(alloc, bag)?;
-    put_hooks(alloc, &mut text, &hooks, bag)?;
+    put_ports(alloc, &mut text, ports, &counts)?;
+    put_hooks(alloc, &mut text, &counts.hooks)?;
     Ok(text)
 }

@@ -16,6 +16,7 @@ pub mod Held
 pub mod Counted
 pub mod Vanished
 pub mod Stilled
+pub mod Lawful
 pub mod PlainSteps
 pub mod Tested
 pub mod Reached

@@ -31,6 +31,7 @@ pub mod Tests
 pub mod Refusal
 pub mod Plain
 pub mod Laws
+pub mod Lawful
 pub mod RunLaws
 pub mod KnownRun
 pub mod LowRun

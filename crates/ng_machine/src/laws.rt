@@ -2,6 +2,7 @@
 //! contract is the law.
 
 ghost use Rattle.ng_machine.specs.Laws.{RunIs, Once, InOrder, WriterAlone, TakenOnce, WholeTakesNothing, Retired, Serial, PlainIsThere, PlainIsOne, PlainIsOrderly};
+ghost use Rattle.ng_machine.specs.Lawful.{OrderlyIsLawful};
 ghost use Rattle.ng_machine.specs.RunLaws.{StaysOut, SpentTakesNothing, ByItsTaker};
 ghost use Rattle.ng_machine.specs.KnownRun.{RunsAreKnown};
 ghost use Rattle.ng_machine.specs.LowRun.{RunsAreLow};
@@ -71,6 +72,12 @@ pub fn retired()
 /// Each item that is applied is free: what came before it at its node and waits reads, and has another lane.
 pub fn serial()
     ensures { Serial }
+{}
+
+/// An orderly journal keeps the laws: each item is accounted for and applied once at most, each node's items in order,
+/// writers alone, nodes still while an item is taken, nothing for a node that is gone, and each applied item free.
+pub fn orderly_is_lawful()
+    ensures { OrderlyIsLawful }
 {}
 
 /// From each beginning there is a plain journal.

@@ -29,10 +29,10 @@ pub use input::Input;
 pub use item::Item;
 pub use laws::{
     absorbing_preserves, by_its_taker, cut_undoes, feeds_unless_refused, in_order, kinds_stay,
-    links_are_few, once, orderly_by_test, packets_are_bounded, plain_is_one, plain_is_orderly,
-    plain_is_there, readers_preserve, refused_leaves, retired, run_is, runs_are_known,
-    runs_are_low, serial, spent_takes_nothing, states_stay_sound, stays_out, taken_once,
-    whole_takes_nothing, writer_alone,
+    links_are_few, once, orderly_by_test, orderly_is_lawful, packets_are_bounded, plain_is_one,
+    plain_is_orderly, plain_is_there, readers_preserve, refused_leaves, retired, run_is,
+    runs_are_known, runs_are_low, serial, spent_takes_nothing, states_stay_sound, stays_out,
+    taken_once, whole_takes_nothing, writer_alone,
 };
 pub use lost::Lost;
 pub use outcome::{Counts, Leaves, Outcome, Sends};

@@ -3,3 +3,4 @@ pub mod Contents
 pub mod Read
 pub mod Write
 pub mod Memory
+pub mod Real

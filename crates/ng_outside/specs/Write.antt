@@ -1,9 +1,9 @@
 -- What was written of bytes that are put into a sink, one piece behind the other. `old` and `now` are what the
 -- sink held and holds, where it tells; `Appends old now bytes` of std says that it grew by exactly `bytes`.
 use Rattle.std.specs.Prelude.{◌≡◌, ℕ, List, [], ◌++◌, Option, refl}
-use Rattle.std.specs.Io.KnownBytes.{Appends}
+use Rattle.std.specs.Io.KnownBytes.{Appends, Keeps}
 use Rattle.std.proofs.Common.{sym, ap, ◌∙◌, subst, append_assoc, append-nil}
-use Rattle.std.proofs.KnownBytes.{Appends-nil, Appends-trans}
+use Rattle.std.proofs.KnownBytes.{Appends-nil, Appends-trans, Appends-kept}
 
 -- it grew by some prefix of `bytes`: by all, a part or none of them
 pub record AppendsPrefix (old now : Option (List ℕ)) (bytes : List ℕ) : Type 0 where
@@ -95,3 +95,13 @@ Appends-is_prefix old now bytes grown = record { prefix = bytes; rest = []; spli
 -- none of them is a prefix of them
 pub none_prefix : (old : Option (List ℕ)) (bytes : List ℕ) → AppendsPrefix old old bytes
 none_prefix old bytes = record { prefix = []; rest = bytes; split = refl; grown = Appends-nil old }
+
+-- what was a prefix still is one after a call that took nothing
+pub AppendsPrefix-kept : (old now next : Option (List ℕ)) (bytes : List ℕ) → AppendsPrefix old now bytes → Keeps now next
+    → AppendsPrefix old next bytes
+AppendsPrefix-kept old now next bytes part same = record {
+  prefix = part.prefix;
+  rest = part.rest;
+  split = part.split;
+  grown = Appends-kept old now next part.prefix part.grown same;
+}

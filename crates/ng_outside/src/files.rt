@@ -1,5 +1,5 @@
 // Files, by name.
-ghost use Rattle.std.specs.Prelude.{◌≡◌, ◌≢◌, ◌⊎◌, ℕ, ◌<◌, ◌≤◌, List, [], length, take, IfOk, OnOk, OnErr, IsErr};
+ghost use Rattle.std.specs.Prelude.{◌≡◌, ◌≢◌, ◌⊎◌, ℕ, Bool, true, ◌<◌, ◌≤◌, List, [], length, take, IfOk, OnOk, OnErr, IsErr};
 ghost use Rattle.ng_outside.specs.Contents.{Contents, NoFile, IfHolds, HoldsNow, Grows, KeptOrBegun};
 ghost use Rattle.ng_outside.specs.Count.{Rose};
 ghost use Rattle.ng_outside.specs.Read.{ReadsAt};
@@ -15,6 +15,9 @@ use crate::Failed;
 pub trait Files {
     /// What a name holds: its bytes, that there is no such file, or nothing that is told.
     ghost contents: { Self → List ℕ → Contents };
+
+    /// Whether the writing of a name's file is ended: nothing of it is left for the system to write.
+    ghost is_ended: { Self → List ℕ → Bool };
 
     /// A name's count of faults.
     ghost faults: { Self → List ℕ → ℕ };
@@ -61,6 +64,17 @@ pub trait Files {
             Grows (contents self.old name.now) (contents self.new name.now) (take count bytes.now)) }
         ensures same { OnErr result (contents self.new ≡ contents self.old) }
         ensures others { (other : List ℕ) → other ≢ name.now → contents self.new other ≡ contents self.old other }
+        ensures counts { (other : List ℕ) → faults self.old other ≤ faults self.new other }
+        ensures cause { OnErr result (Rose (faults self.old name.now) (faults self.new name.now)) };
+
+    /// Ends the writing of the file `name`, as a caller does after its last `append`: the system tells now what it could not
+    /// write. What files hold stays as it was.
+    ///
+    /// # Errors
+    /// `Failed`, only where the count of this name's faults rose in this call.
+    fn finish(&mut self, name: &str) -> Result<(), Failed>
+        ensures ended { OnOk result (is_ended self.new name.now ≡ true) }
+        ensures same { contents self.new ≡ contents self.old }
         ensures counts { (other : List ℕ) → faults self.old other ≤ faults self.new other }
         ensures cause { OnErr result (Rose (faults self.old name.now) (faults self.new name.now)) };
 }

@@ -1,5 +1,5 @@
 // Files in memory, which tell what they hold and fail at the calls that are listed.
-ghost use Rattle.std.specs.Prelude.{◌≡◌, ◌≢◌, Some, [], All, ◌-◌, ◌≤◌, ◌<◌, ◌↔◌, ◌++◌, ℕ, List, map, min, length, take, drop, find, position, string_bytes, vec_len, vec_capacity, IfOk, OnOk, OnErr, IsErr, IfSome, IsSome, IsTrue, IsFalse};
+ghost use Rattle.std.specs.Prelude.{◌≡◌, ◌≢◌, Some, [], All, ◌-◌, ◌≤◌, ◌<◌, ◌↔◌, ◌++◌, ℕ, List, map, min, length, take, drop, find, position, string_bytes, vec_len, vec_capacity, true, IfOk, OnOk, OnErr, IsErr, IsOk, IfSome, IsSome, IsTrue, IsFalse};
 ghost use Rattle.std.specs.Option.{option_copied, option_map};
 ghost use Rattle.std.specs.Str.{bytes_eq};
 ghost use Rattle.ng_outside.specs.Contents.{NoFile, IfHolds, HoldsNow, Grows, KeptOrBegun};
@@ -214,6 +214,8 @@ impl MemFiles {
 impl Files for MemFiles {
     ghost contents = { contents_named };
 
+    ghost is_ended = { λ _ _. true };
+
     ghost faults = { λ state _. state.faults };
 
     /// # Errors
@@ -313,5 +315,19 @@ impl Files for MemFiles {
         }
         self.faults = self.faults.saturating_add(1);
         Err(Failed)
+    }
+
+    /// Nothing is left to be written, so this never fails, and is no call that is counted.
+    fn finish(&mut self, _name: &str) -> Result<(), Failed>
+        ensures ok { IsOk result }
+        ensures all { self.new ≡ self.old }
+
+        // What every implementation promises.
+        ensures ended { OnOk result (true ≡ true) }
+        ensures same { contents_named self.new ≡ contents_named self.old }
+        ensures counts { (other : List ℕ) → self.old.faults ≤ self.new.faults }
+        ensures cause { OnErr result (Rose self.old.faults self.new.faults) }
+    {
+        Ok(())
     }
 }

@@ -1,6 +1,6 @@
 // A sink in memory, which tells what it holds and fails at the calls that are listed.
 ghost use Rattle.std.specs.Prelude.{◌≡◌, ◌++◌, ◌-◌, ◌≤◌, ◌<◌, ◌↔◌, Some, [], take, length, IfOk, OnOk, OnErr, IsErr};
-ghost use Rattle.std.specs.Io.KnownBytes.{Appends};
+ghost use Rattle.std.specs.Io.KnownBytes.{Appends, Keeps};
 ghost use Rattle.ng_outside.specs.Count.{next_count, Rose};
 ghost use Rattle.ng_outside.specs.Memory.{moved_count, PutFails};
 
@@ -129,7 +129,7 @@ impl Sink for MemSink {
         ensures some { IfOk result (λ count. 0 < count) }
         ensures within { IfOk result (λ count. count ≤ length bytes.now) }
         ensures grown { IfOk result (λ count. Appends (Some self.old.bytes) (Some self.new.bytes) (take count bytes.now)) }
-        ensures same { OnErr result (Some self.new.bytes ≡ Some self.old.bytes) }
+        ensures same { OnErr result (Keeps (Some self.old.bytes) (Some self.new.bytes)) }
         ensures counts { self.old.faults ≤ self.new.faults }
         ensures cause { OnErr result (Rose self.old.faults self.new.faults) }
     {

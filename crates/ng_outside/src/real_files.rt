@@ -1,12 +1,12 @@
 // The real files. They tell no contents.
-ghost use Rattle.std.specs.Prelude.{◌≡◌, ℕ, ◌<◌, ◌≤◌, List, length, IfOk, OnOk, OnErr};
+ghost use Rattle.std.specs.Prelude.{◌≡◌, ℕ, ◌<◌, ◌≤◌, List, true, length, IfOk, OnOk, OnErr};
 ghost use Rattle.ng_outside.specs.Contents.{NotTold};
 ghost use Rattle.ng_outside.specs.Count.{next_count, Rose};
 
 use crate::{Failed, Files};
 use std::alloc::Global;
-use std::fs::OpenOptions;
-use std::io::{Read, Seek, SeekFrom, Write};
+use std::fs::{OpenFile, OpenOptions};
+use std::io::{ErrorKind, Read, Seek, SeekFrom, Write};
 use std::marker::Model;
 use std::{fs, io, rt};
 
@@ -57,6 +57,18 @@ fn open_to_read<R: rt::Files>(rt: &R, name: &str, at: u64) -> io::Result<R::File
 
 fn open_to_append<R: rt::Files>(rt: &R, name: &str) -> io::Result<R::File> {
     OpenOptions::new().append(true).create(true).open(rt, name)
+}
+
+// Has the system write what it holds of a file. What can't be synced, as a pipe or a device, has nothing left.
+fn sync<H: OpenFile>(file: &H) -> io::Result<()> {
+    match file.sync_all() {
+        Err(error)
+            if matches!(
+                error.kind(),
+                ErrorKind::InvalidInput | ErrorKind::Unsupported | ErrorKind::ReadOnlyFilesystem
+            ) => Ok(()),
+        synced => synced,
+    }
 }
 
 impl<R: rt::Files> StdFiles<R> {
@@ -140,10 +152,19 @@ impl<R: rt::Files> StdFiles<R> {
         self.writing = keep(self.alloc, name, file, 0);
         Ok(count)
     }
+
+    fn end_writing(&mut self, name: &str) -> io::Result<()>
+        ensures { self.new ≡ self.old }
+    {
+        let file = self.opened_to_append(name)?;
+        sync(&file)
+    }
 }
 
 impl<R: rt::Files> Files for StdFiles<R> {
     ghost contents = { λ _ _. NotTold };
+
+    ghost is_ended = { λ _ _. true };
 
     ghost faults = { λ count _. count };
 
@@ -197,6 +218,25 @@ impl<R: rt::Files> Files for StdFiles<R> {
         match self.write_on(name, bytes) {
             Ok(count) if count > 0 => Ok(count),
             _ => Err(self.fail()),
+        }
+    }
+
+    /// Has the system write what it holds of the file, as fsync(2) does, and closes it. A file that can't be synced, as a
+    /// pipe or a device, has nothing left to be written.
+    ///
+    /// # Errors
+    /// `Failed` where the system answers another error.
+    fn finish(&mut self, name: &str) -> Result<(), Failed>
+        ensures ok { OnOk result (self.new ≡ self.old) }
+        ensures err { OnErr result (self.new ≡ next_count self.old) }
+
+        // What every implementation promises, of files that are not told.
+        ensures counts { (other : List ℕ) → self.old ≤ self.new }
+        ensures cause { OnErr result (Rose self.old self.new) }
+    {
+        match self.end_writing(name) {
+            Ok(()) => Ok(()),
+            Err(_) => Err(self.fail()),
         }
     }
 }

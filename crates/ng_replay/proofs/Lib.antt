@@ -2,7 +2,8 @@ pub mod Steps
 pub mod Sorts
 pub mod Said
 pub mod Journals
+pub mod Accepted
 pub mod ReadAll
 pub mod Judged
-pub mod Exactly
+pub mod Behaves
 pub mod Replaying

@@ -7,7 +7,7 @@ use Rattle.ng_call.proofs.ending.Lists.{first_behind, refuses_behind, refuses_in
 use Rattle.ng_machine.specs.declared.command.Command.{Command}
 use Rattle.ng_outside.specs.Contents.{Contents}
 use Rattle.ng_pcap.specs.declared.capture.Capture.{Capture}
-use Rattle.ng_call.specs.Ends as run
+use Rattle.ng_call.specs.Call as run
 use Rattle.ng_call.specs.Found.{Found, IsRead}
 use Rattle.ng_call.specs.Parts.{AllPass, of_files}
 use Rattle.ng_call.specs.Parts as parts

@@ -1,12 +1,10 @@
 -- How a replay ends that has read.
-use Rattle.std.proofs.Common.{◌≡◌, ◌⊎◌, ◌∙◌, inl, inr, ℕ, List, [], ◌∷◌, length, map, Option, Some, None, Result, Ok, Err, OnOk, OnErr, IsErrOf, refl, sym, ap, subst}
+use Rattle.std.proofs.Common.{◌≡◌, ◌⊎◌, ◌∙◌, inl, inr, ℕ, List, length, map, Option, Some, None, Result, Ok, Err, OnOk, OnErr, IsErrOf, refl, sym, ap, subst}
 use Rattle.std.specs.Io.KnownBytes.{Appends}
 use Rattle.std.specs.List.{list_any}
 use Rattle.ng_base.specs.declared.event.Event.{Event}
 use Rattle.ng_base.specs.declared.kind.Kind.{Kind}
 use Rattle.ng_call.specs.ending.Outside.{Outside, Same}
-use Rattle.ng_call.specs.ending.Causes.{NoneChecked, NoneReads}
-use Rattle.ng_call.specs.ending.Steps.{Step, Reads, Checks, Refuses}
 use Rattle.ng_call.proofs.ending.Lists.{refuses_within}
 use Rattle.ng_replay.specs.judge.Verdict.{IsVerdict}
 use Rattle.ng_replay.specs.declared.judge.verdict.Verdict.{Verdict}
@@ -31,64 +29,12 @@ use Rattle.ngctl_script.specs.declared.when.When.{When}
 use Rattle.ngctl_print.specs.whole.Text.{world_text}
 use Rattle.ng_args.specs.declared.port.PortWord.{PortWord}
 use Rattle.ng_args.specs.declared.words.ReplayWords.{ReplayWords}
-use Rattle.ng_replay.specs.Call.{AllFound, call_of, events_if, events_in, run_of, steps_in}
-use Rattle.ng_replay.specs.Ends.{EndsBut, EndsFor, EndsWith, Stopped}
+use Rattle.ng_replay.specs.Call.{AllFound, events_if, events_in, run_of, steps_in}
+use Rattle.ng_replay.specs.Ends.{EndsAs}
 use Rattle.ng_replay.specs.Parts.{AllRead, AllStop, Stops}
 use Rattle.ng_replay.specs.declared.ended.ReplayFault.{ReplayFault}
-use Rattle.ng_replay.specs.declared.ended.ReplayFault.TheVariants.{Usage, Script, Capture as WrongCapture, Journal, TooBig, ReadFault, WriteFault, No, NoMemory}
+use Rattle.ng_replay.specs.declared.ended.ReplayFault.TheVariants.{Usage, WriteFault, No, NoMemory}
 use Rattle.ng_replay.proofs.ReadAll.{all_fine, found_all, memory_all_found}
-use Rattle.ng_replay.proofs.Sorts.{AreElse, none_checked, none_read}
-
--- a replay that didn't come to its verdict stopped with this fault
-abbrev pub IsNoVerdict : ReplayFault → Type 0
-IsNoVerdict (No at) = ⊥
-IsNoVerdict Usage = Unit {0}
-IsNoVerdict (Script fault) = Unit {0}
-IsNoVerdict (WrongCapture port why) = Unit {0}
-IsNoVerdict (Journal line) = Unit {0}
-IsNoVerdict (TooBig which) = Unit {0}
-IsNoVerdict (ReadFault which) = Unit {0}
-IsNoVerdict WriteFault = Unit {0}
-IsNoVerdict NoMemory = Unit {0}
-
--- no read and no look ends with a no
-abbrev IsNo : ReplayFault → Type 0
-IsNo (No at) = Unit {0}
-IsNo Usage = ⊥
-IsNo (Script fault) = ⊥
-IsNo (WrongCapture port why) = ⊥
-IsNo (Journal line) = ⊥
-IsNo (TooBig which) = ⊥
-IsNo (ReadFault which) = ⊥
-IsNo WriteFault = ⊥
-IsNo NoMemory = ⊥
-
-no_else : AreElse IsNo
-no_else = record { big = λ which is. is; script = λ fault is. is; capture = λ port why is. is; journal = λ line is. is }
-
-none_refuses : (P : ReplayFault → Type 0) (o : Outside) (steps : List (Step ReplayFault)) (fault : ReplayFault) → P fault → NoneChecked P steps
-    → NoneReads P steps → Refuses o steps fault → ⊥
-none_refuses P o [] fault of checked unread r = r
-none_refuses P o (Reads name failed ∷ steps) fault of checked unread (inl read) = unread.0 (subst P read.0 of)
-none_refuses P o (Reads name failed ∷ steps) fault of checked unread (inr later) = none_refuses P o steps fault of checked unread.1 later.1
-none_refuses P o (Checks None ∷ steps) fault of checked unread r = none_refuses P o steps fault of checked unread r
-none_refuses P o (Checks (Some found) ∷ steps) fault of checked unread r = checked.0 (subst P r of)
-
-no_stop : (o : Outside) (w : ReplayWords) (found : AllFound) (at : ℕ) → Stops o (steps_in w found) (No at) → ⊥
-no_stop o w found at (inl memory) = cc memory
-no_stop o w found at (inr refuses) =
-    none_refuses IsNo o (steps_in w found) (No at) tt (none_checked IsNo no_else w found) (none_read IsNo (λ which is. is) w found) refuses
-
-stop_else : (o : Outside) (w : ReplayWords) (found : AllFound) (fault : ReplayFault) → Stops o (steps_in w found) fault → IsNoVerdict fault
-stop_else o w found (No at) stops = no_stop o w found at stops
-stop_else o w found Usage stops = tt
-stop_else o w found (Script fault) stops = tt
-stop_else o w found (WrongCapture port why) stops = tt
-stop_else o w found (Journal line) stops = tt
-stop_else o w found (TooBig which) stops = tt
-stop_else o w found (ReadFault which) stops = tt
-stop_else o w found WriteFault stops = tt
-stop_else o w found NoMemory stops = tt
 
 -- a verdict that isn't a no
 pub yes_of : (verdict : Verdict) → ((at : ℕ) → verdict ≡ says.No at → ⊥) → verdict ≡ says.Yes
@@ -96,27 +42,17 @@ yes_of says.Yes nope = refl
 yes_of (says.No at) nope = absurd (nope at refl)
 
 module _ (kinds : List Kind) (w : ReplayWords) (o : Outside) where
-  pub ends_but : (found : AllFound) (fault : ReplayFault) → IsNoVerdict fault → Stopped (call_of kinds w found) o fault → EndsBut (call_of kinds w found) o fault
-  ends_but found (No at) else e = absurd else
-  ends_but found Usage else e = e
-  ends_but found (Script fault) else e = e
-  ends_but found (WrongCapture port why) else e = e
-  ends_but found (Journal line) else e = e
-  ends_but found (TooBig which) else e = e
-  ends_but found (ReadFault which) else e = e
-  ends_but found WriteFault else e = e
-  ends_but found NoMemory else e = e
-
   -- a read that stopped, or memory that ran out
-  pub stops_ended : (fault : ReplayFault) → IsNoVerdict fault → Same o.old o.now → AllStop o w fault → EndsWith kinds w o (Some fault)
-  stops_ended fault else same (found, is, stops) = record {
-    found = found;
-    is_found = is;
-    ends = ends_but found fault else (says.Yes, inl (record { nothing = refl; same = same; cause = stops }));
+  pub stops_ended : (fault : ReplayFault) → Same o.old o.now → AllStop o w fault → EndsAs kinds (Some w) o (Some fault)
+  stops_ended fault same (found, is, stops) = record {
+    verdict = says.Yes;
+    stop = Some fault;
+    fault_is = refl;
+    ends = record { input = found; is_found = is; ends = inl (record { nothing = refl; same = same; cause = stops }); status_is = refl };
   }
 
-  pub memory_ended : Same o.old o.now → EndsWith kinds w o (Some NoMemory)
-  memory_ended same = stops_ended NoMemory tt same (memory_all_found o w)
+  pub memory_ended : Same o.old o.now → EndsAs kinds (Some w) o (Some NoMemory)
+  memory_ended same = stops_ended NoMemory same (memory_all_found o w)
 
 -- files that were read so far
 module _ (kinds : List Kind) (w : ReplayWords) (sink : Option (List ℕ)) (old last : List ℕ → Contents) (before after : List ℕ → ℕ) (count : ℕ) where
@@ -130,17 +66,27 @@ module _ (kinds : List Kind) (w : ReplayWords) (sink : Option (List ℕ)) (old l
   placed found fault (inl memory) = inl memory
   placed found fault (inr refuses) = inr (refuses_within files_read reading refl (λ name rose. rose) (steps_in w found) fault refuses)
 
-  pub read_stops : (fault : ReplayFault) → last ≡ old → AllStop files_read w fault → EndsWith kinds w reading (Some fault)
+  pub read_stops : (fault : ReplayFault) → last ≡ old → AllStop files_read w fault → EndsAs kinds (Some w) reading (Some fault)
   read_stops fault same (found, is, stops) =
-      stops_ended kinds w reading fault (stop_else files_read w found fault stops) (record { sink = refl; files = same }) (found, is, placed found fault stops)
+      stops_ended kinds w reading fault (record { sink = refl; files = same }) (found, is, placed found fault stops)
 
 -- the same of a call, by what its words say
-pub memory_ends : (kinds : List Kind) (said : Option ReplayWords) (o : Outside) → Same o.old o.now → EndsFor kinds said o (Some NoMemory)
-memory_ends kinds None o same = (says.Yes, inl (record { nothing = refl; same = same; cause = inl refl }))
+
+unsaid : (kinds : List Kind) (o : Outside) (fault : ReplayFault) → Same o.old o.now → (Some fault ≡ Some Usage) ⊎ (Some fault ≡ Some NoMemory)
+    → EndsAs kinds None o (Some fault)
+unsaid kinds o fault same cause = record {
+  verdict = says.Yes;
+  stop = Some fault;
+  fault_is = refl;
+  ends = record { nothing = refl; same = same; cause = cause; status_is = refl };
+}
+
+pub memory_ends : (kinds : List Kind) (said : Option ReplayWords) (o : Outside) → Same o.old o.now → EndsAs kinds said o (Some NoMemory)
+memory_ends kinds None o same = unsaid kinds o NoMemory same (inr refl)
 memory_ends kinds (Some w) o same = memory_ended kinds w o same
 
-pub usage_ends : (kinds : List Kind) (said : Option ReplayWords) (o : Outside) → said ≡ None → Same o.old o.now → EndsFor kinds said o (Some Usage)
-usage_ends kinds said o is same = subst (λ (s : Option ReplayWords). EndsFor kinds s o (Some Usage)) (sym is) (says.Yes, inl (record { nothing = refl; same = same; cause = inr refl }))
+pub usage_ends : (kinds : List Kind) (said : Option ReplayWords) (o : Outside) → said ≡ None → Same o.old o.now → EndsAs kinds said o (Some Usage)
+usage_ends kinds said o is same = subst (λ (s : Option ReplayWords). EndsAs kinds s o (Some Usage)) (sym is) (unsaid kinds o Usage same (inl refl))
 
 -- ALL WAS READ
 
@@ -162,14 +108,20 @@ module _ (kinds : List Kind) (w : ReplayWords) (files : List ℕ → Contents) (
     around = outside (storing old files) (storing now files) (counting sb before) (counting sa after)
 
     -- the journal is refused
-    pub no_ends : (at : ℕ) → now ≡ old → IsVerdict (setting_of kinds (run_of w) inputs) journal (says.No at) → EndsWith kinds w around (Some (No at))
+    pub no_ends : (at : ℕ) → now ≡ old → IsVerdict (setting_of kinds (run_of w) inputs) journal (says.No at) → EndsAs kinds (Some w) around (Some (No at))
     no_ends at same is = record {
-      found = found;
-      is_found = (A.pass.is_found, A.read);
+      verdict = says.No at;
+      stop = None;
+      fault_is = refl;
       ends = record {
-        passed = all_fine files w script commands captures journal A;
-        ran = judged (says.No at) is;
-        written = record { sink = same; files = refl };
+        input = found;
+        is_found = (A.pass.is_found, A.read);
+        ends = record {
+          passed = all_fine files w script commands captures journal A;
+          ran = judged (says.No at) is;
+          written = record { sink = same; files = refl };
+        };
+        status_is = refl;
       };
     }
 
@@ -189,29 +141,39 @@ module _ (kinds : List Kind) (w : ReplayWords) (files : List ℕ → Contents) (
       text_is : text ≡ text_in kinds (run_of w) A.pass.found (events_in found)
       text_is = rw (shown_is, ports_are, cuts_are, of_is ∙ ap length inputs_are, world_found, sym events_are) refl
 
-      pub yes_ends : Appends old now text → EndsWith kinds w around None
+      pub yes_ends : Appends old now text → EndsAs kinds (Some w) around None
       yes_ends put = record {
-        found = found;
-        is_found = (A.pass.is_found, A.read);
+        verdict = says.Yes;
+        stop = None;
+        fault_is = refl;
         ends = record {
-          passed = all_fine files w script commands captures journal A;
-          ran = judged says.Yes is;
-          written = (storing now files, (subst (Appends old now) text_is put, refl), record { sink = refl; files = refl });
+          input = found;
+          is_found = (A.pass.is_found, A.read);
+          ends = record {
+            passed = all_fine files w script commands captures journal A;
+            ran = judged says.Yes is;
+            written = (storing now files, (subst (Appends old now) text_is put, refl), record { sink = refl; files = refl });
+          };
+          status_is = refl;
         };
       }
 
-      pub put_stops : (fault : ReplayFault) → IsNoVerdict fault → (fault ≡ NoMemory) ⊎ ((fault ≡ WriteFault) × Rose sb sa) → AppendsPrefix old now text → EndsWith kinds w around (Some fault)
-      put_stops fault else cause put = record {
-        found = found;
-        is_found = (A.pass.is_found, A.read);
-        ends = ends_but kinds w around found fault else (
-          says.Yes,
-          inr (inr (record {
+      pub put_stops : (fault : ReplayFault) → (fault ≡ NoMemory) ⊎ ((fault ≡ WriteFault) × Rose sb sa) → AppendsPrefix old now text
+          → EndsAs kinds (Some w) around (Some fault)
+      put_stops fault cause put = record {
+        verdict = says.Yes;
+        stop = Some fault;
+        fault_is = refl;
+        ends = record {
+          input = found;
+          is_found = (A.pass.is_found, A.read);
+          ends = inr (inr (record {
             passed = all_fine files w script commands captures journal A;
             ran = judged says.Yes is;
             stops = inl (cause, (subst (AppendsPrefix old now) text_is put, refl));
-          })),
-        );
+          }));
+          status_is = refl;
+        };
       }
 
       -- what a print of it comes to
@@ -223,15 +185,15 @@ module _ (kinds : List Kind) (w : ReplayWords) (files : List ℕ → Contents) (
         front : (stop : PrintStop) → result ≡ Err stop → AppendsPrefix old now text
         front stop fell = subst (λ (r : Result (Unit {0}) PrintStop). OnErr r (AppendsPrefix old now text)) fell prints_text.front
 
-        pub printed : (one : Unit {0}) → result ≡ Ok one → EndsWith kinds w around None
+        pub printed : (one : Unit {0}) → result ≡ Ok one → EndsAs kinds (Some w) around None
         printed one well = yes_ends (subst (λ (r : Result (Unit {0}) PrintStop). OnOk r (Appends old now text)) well prints_text.whole)
 
-        pub sink_failed : (stop : PrintStop) → result ≡ Err stop → stop ≡ stops.Fault → EndsWith kinds w around (Some WriteFault)
+        pub sink_failed : (stop : PrintStop) → result ≡ Err stop → stop ≡ stops.Fault → EndsAs kinds (Some w) around (Some WriteFault)
         sink_failed stop fell why =
             let both : result ≡ Err stops.Fault = fell ∙ ap (λ (s : PrintStop). Err s) why in
-            put_stops WriteFault tt
+            put_stops WriteFault
             (inr (refl, prints_text.cause (subst (λ (r : Result (Unit {0}) PrintStop). IsErrOf r stops.Fault) (sym both) refl)))
             (front stop fell)
 
-        pub memory_failed : (stop : PrintStop) → result ≡ Err stop → EndsWith kinds w around (Some NoMemory)
-        memory_failed stop fell = put_stops NoMemory tt (inl refl) (front stop fell)
+        pub memory_failed : (stop : PrintStop) → result ≡ Err stop → EndsAs kinds (Some w) around (Some NoMemory)
+        memory_failed stop fell = put_stops NoMemory (inl refl) (front stop fell)

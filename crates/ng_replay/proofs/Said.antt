@@ -120,6 +120,7 @@ form : (w : ReplayWords) → Spoken w → are_replay_words w ≡ true → InForm
 form w S all =
     let ports = and_left (are_ports w.own_name w.ports) (are_files (w.journal ∷ []) (w.script ∷ ins w.ports)) all in record {
       of_run = record {
+        workers = S.few_workers;
         some = S.some;
         most = S.most;
         own = S.own;

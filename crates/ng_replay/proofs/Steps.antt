@@ -9,7 +9,7 @@ use Rattle.ng_call.specs.ending.Steps.{Step, Reads, Checks, first_fault, unless_
 use Rattle.ng_call.specs.declared.ended.Fault.{Fault}
 use Rattle.ng_call.specs.declared.ended.Fault.TheVariants as of_run
 use Rattle.ng_call.specs.declared.ended.Which.TheVariants as of
-use Rattle.ng_call.specs.Ends as run
+use Rattle.ng_call.specs.Call as run
 use Rattle.ng_call.specs.Found.{Found}
 use Rattle.ng_call.specs.Steps.{capture_steps, fault_in, most_bytes, most_packets, most_script, over, packets_in, script_steps}
 use Rattle.ng_replay.specs.Call.{names}

@@ -1,32 +1,29 @@
--- What a replay is to do: it reads a script, captures and a journal, judges the journal for the run of that script and those
--- captures, and where it is accepted writes the text of that run.
-use Rattle.std.specs.Prelude.{ℕ, List, [], ◌∷◌, ◌++◌, length, map, Option, Some, None, Result, Ok, Err}
+-- What a replay is to do, as a task: it reads a script, captures and a journal, judges the journal for the run of that
+-- script and those captures, and where it is accepted writes the text of that run.
+use Rattle.std.specs.Prelude.{ℕ, List, [], ◌∷◌, ◌++◌, length, Option, Some, None, Result, Ok, Err}
 use Rattle.ng_base.specs.declared.event.Event.{Event}
 use Rattle.ng_base.specs.declared.kind.Kind.{Kind}
-use Rattle.ng_call.specs.ending.Ends.{Call}
 use Rattle.ng_call.specs.ending.Outside.{ToSink}
 use Rattle.ng_call.specs.ending.Steps.{Step, Reads, Checks}
+use Rattle.ng_call.specs.ending.Task.{Task}
 use Rattle.ng_call.specs.ending.Writes.{Write}
 use Rattle.ng_journal.specs.Reading.{journal_of}
 use Rattle.ng_replay.specs.judge.Verdict.{IsVerdict}
 use Rattle.ng_replay.specs.declared.judge.verdict.Verdict.{Verdict}
 use Rattle.ng_replay.specs.declared.judge.verdict.Verdict.TheVariants as says
-use Rattle.ng_machine.specs.State.{State, kind_of}
 use Rattle.ng_outside.specs.Contents.{Contents}
-use Rattle.ng_call.specs.Ends as run
-use Rattle.ng_call.specs.Found.{Found, IsRead}
+use Rattle.ng_call.specs.Call as run
+use Rattle.ng_call.specs.Found.{Found, IsRead, IsTold}
 use Rattle.ng_call.specs.Run.{setting_in}
 use Rattle.ng_call.specs.Steps.{Names, script_steps, capture_steps, over}
 use Rattle.ng_call.specs.Writes.{text_in}
 use Rattle.ng_args.specs.declared.words.ReplayWords.{ReplayWords}
 use Rattle.ng_args.specs.declared.words.Source.TheVariants.{FromFiles}
 use Rattle.ng_args.specs.declared.words.Words.{Words}
+use Rattle.ng_replay.specs.Faults.{fault_status, status_of}
 use Rattle.ng_replay.specs.declared.ended.Given.TheVariants as given
 use Rattle.ng_replay.specs.declared.ended.ReplayFault.{ReplayFault}
-use Rattle.ng_replay.specs.declared.ended.ReplayFault.TheVariants.{Script, Capture, Journal, TooBig, ReadFault, WriteFault, No, NoMemory}
-
-abbrev pub kinds_of : {B : Type 0} → (B → State) → List B → List Kind
-kinds_of state stock = map (λ b. kind_of (state b)) stock
+use Rattle.ng_replay.specs.declared.ended.ReplayFault.TheVariants.{Usage, Script, Capture, Journal, TooBig, ReadFault, WriteFault, No, NoMemory}
 
 -- the words of the run that a replay is of: the one that wrote the journal
 abbrev pub run_of : ReplayWords → Words
@@ -44,7 +41,13 @@ pub record AllFound : Type 0 where
   pub journal : List ℕ
 
 abbrev pub IsAllFound : (List ℕ → Contents) → ReplayWords → AllFound → Type 0
-IsAllFound files words found = run.IsFound files (FromFiles words.script words.ports) found.given × IsRead (files words.journal) found.journal
+IsAllFound files words found =
+    run.IsFound files (FromFiles words.script words.ports) found.given × IsRead (files words.journal) found.journal
+
+-- the files tell that they hold them
+abbrev pub TellAll : (List ℕ → Contents) → ReplayWords → AllFound → Type 0
+TellAll files words found =
+    run.Tell files (FromFiles words.script words.ports) found.given × IsTold (files words.journal) found.journal
 
 abbrev pub names : Names ReplayFault
 names = record {
@@ -92,18 +95,25 @@ abbrev pub writes_by : List Kind → ReplayWords → AllFound → Verdict → Li
 writes_by kinds words found says.Yes = text_write (text_in kinds (run_of words) found.given (events_in found)) ∷ []
 writes_by kinds words found (says.No at) = []
 
--- what the run of a replay makes is the verdict
-abbrev pub call_of : List Kind → ReplayWords → AllFound → Call ReplayFault Verdict
-call_of kinds words found = record {
-  steps = steps_in words found;
-  nothing = says.Yes;
-  IsPart = λ verdict. Unit {0};
-  IsMade = IsVerdict (setting_in kinds (run_of words) found.given) (events_in found);
-  writes = writes_by kinds words found;
-  no_memory = NoMemory;
-}
-
 -- the fault that a verdict is
 abbrev pub fault_by : Verdict → Option ReplayFault
 fault_by says.Yes = None
 fault_by (says.No at) = Some (No at)
+
+-- what the run of a replay makes is the verdict
+abbrev pub replay_task : List Kind → Task ReplayFault Verdict
+replay_task kinds = record {
+  Words = ReplayWords;
+  Input = AllFound;
+  IsFound = IsAllFound;
+  Tells = TellAll;
+  steps = steps_in;
+  IsPart = λ words found verdict. Unit {0};
+  IsMade = λ words found. IsVerdict (setting_in kinds (run_of words) found.given) (events_in found);
+  writes = writes_by kinds;
+  status = λ words found verdict. status_of (fault_by verdict);
+  nothing = says.Yes;
+  usage = Usage;
+  no_memory = NoMemory;
+  fault_status = fault_status;
+}

@@ -1,8 +1,9 @@
 pub mod judge
 pub mod Faults
 pub mod Call
+pub mod Accepted
 pub mod Said
 pub mod Parts
 pub mod Ends
-pub mod Exactly
+pub mod Behaves
 pub mod Line

@@ -14,6 +14,7 @@ use Rattle.ng_args.specs.declared.words.ReplayWords.{ReplayWords}
 use Rattle.ng_args.specs.declared.words.Source.TheVariants.{FromFiles}
 use Rattle.ng_replay.specs.Call.{AllFound, IsAllFound, journal_steps, steps_in}
 use Rattle.ng_replay.specs.declared.ended.ReplayFault.{ReplayFault}
+use Rattle.ng_replay.specs.declared.reading.ReadAll.{ReadAll}
 use Rattle.ng_replay.specs.declared.ended.ReplayFault.TheVariants.{NoMemory}
 
 -- the fault has its cause in these steps, or memory ran out
@@ -32,3 +33,9 @@ pub record AllRead (files : List ℕ → Contents) (words : ReplayWords) (script
   pub read : IsRead (files words.journal) bytes
   pub fine : first_fault files (journal_steps words.journal bytes) ≡ None
   pub journal_is : journal_of bytes ≡ Ok journal
+
+-- the same of what the functions hand on
+abbrev pub IsReadOf : (List ℕ → Contents) → ReplayWords → ReadAll → Type 0
+IsReadOf files words read =
+    AllRead files words read.given.script.script read.given.script.commands.items read.given.captures.items
+    read.journal.items

@@ -7,5 +7,5 @@ mod laws;
 mod verdict;
 
 pub use judging::judge;
-pub use laws::one_verdict;
+pub use laws::{one_verdict, runs_are_accepted};
 pub use verdict::Verdict;

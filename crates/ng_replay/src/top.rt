@@ -1,14 +1,14 @@
 // The top call.
-ghost use Rattle.std.specs.Prelude.{ℕ, List, map, string_bytes};
+ghost use Rattle.std.specs.Prelude.{ℕ, List, Some};
 ghost use Rattle.ng_outside.specs.Contents.{Contents};
 ghost use Rattle.ng_laws.specs.printable.Printable.{ToldIsPrintable};
 ghost use Rattle.ng_laws.specs.printable.Scripts.{InputsAreFit, InputsAreOfScript, InputsAreTimed};
 ghost use Rattle.ngctl_script.specs.Held.{AreCommands};
-ghost use Rattle.ng_replay.specs.Call.{kinds_of};
-ghost use Rattle.ng_replay.specs.Ends.{EndsBy, EndsFor, EndsWith};
-ghost use Rattle.ng_replay.specs.Exactly.{Accepts, FaultComes, Judges, LeavesPrefix, ReadsOnly, Refuses, RefusesQuietly, UsageComes};
-ghost use Rattle.ng_replay.specs.Parts.{AllRead};
+ghost use Rattle.ng_replay.specs.Behaves.{IsReplayCall};
+ghost use Rattle.ng_replay.specs.Ends.{EndsAs};
+ghost use Rattle.ng_replay.specs.Parts.{AllRead, IsReadOf};
 ghost use Rattle.ng_replay.specs.Said.{InForm};
+ghost use Rattle.ng_call.specs.Called.{happened, kinds_of, texts};
 ghost use Rattle.ng_call.specs.Parts.{counting, outside, storing};
 ghost use Rattle.ng_core.specs.Stocked.{IsStocked};
 ghost use Rattle.ng_args.specs.Replay.{replay_words_of};
@@ -54,9 +54,10 @@ fn replay_read<B: Node, O: Sink>(
 ) -> Option<ReplayFault>
     requires form { InForm words.now }
     requires stocked { IsStocked B.state stock.items }
-    requires read { (files : List ℕ → Contents) × AllRead files words.now read.given.script.script read.given.script.commands.items read.given.captures.items read.journal.items }
-    ensures { (files : List ℕ → Contents) (before after : List ℕ → ℕ) → AllRead files words.now read.given.script.script read.given.script.commands.items read.given.captures.items read.journal.items
-        → EndsWith (kinds_of B.state stock.items) words.now (outside (storing (O.contents out.old) files) (storing (O.contents out.new) files)
+    requires read { (files : List ℕ → Contents) × IsReadOf files words.now read }
+    ensures { (files : List ℕ → Contents) (before after : List ℕ → ℕ) → IsReadOf files words.now read
+        → EndsAs (kinds_of B.state stock.items) (Some words.now)
+        (outside (storing (O.contents out.old) files) (storing (O.contents out.new) files)
         (counting (O.faults out.old) before) (counting (O.faults out.new) after)) result }
 {
     let ReadAll { given, journal } = read;
@@ -95,8 +96,8 @@ fn replay_words<B: Node, F: Files, O: Sink>(
 ) -> Option<ReplayFault>
     requires form { InForm words.now }
     requires stocked { IsStocked B.state stock.items }
-    ensures { EndsWith (kinds_of B.state stock.items) words.now (outside (storing (O.contents out.old) (F.contents files.old)) (storing (O.contents out.new) (F.contents files.new))
-        (counting (O.faults out.old) (F.faults files.old)) (counting (O.faults out.new) (F.faults files.new))) result }
+    ensures { EndsAs (kinds_of B.state stock.items) (Some words.now)
+        (happened O.contents O.faults F.contents F.faults out.old out.new files.old files.new) result }
 {
     match read_all(alloc, words, files) {
         Ok(read) => replay_read(alloc, words, read, out, stock),
@@ -113,8 +114,8 @@ fn replay_call<B: Node, F: Files, O: Sink>(
     stock: Vec<B>,
 ) -> Option<ReplayFault>
     requires stocked { IsStocked B.state stock.items }
-    ensures { EndsFor (kinds_of B.state stock.items) (replay_words_of (map (λ word. string_bytes word) words.now)) (outside (storing (O.contents out.old) (F.contents files.old)) (storing (O.contents out.new) (F.contents files.new))
-        (counting (O.faults out.old) (F.faults files.old)) (counting (O.faults out.new) (F.faults files.new))) result }
+    ensures { EndsAs (kinds_of B.state stock.items) (replay_words_of (texts words.now))
+        (happened O.contents O.faults F.contents F.faults out.old out.new files.old files.new) result }
 {
     match read_replay_words(alloc, words) {
         Ok(Some(said)) => replay_words(alloc, &said, files, out, stock),
@@ -123,13 +124,14 @@ fn replay_call<B: Node, F: Files, O: Sink>(
     }
 }
 
-/// The call of a replay: reads the words, the script, the captures and the journal that they name, and says whether the journal is
-/// one of the run of that script and those captures; if it is, it writes the text of that run into `out`.
+/// The call of a replay: reads the words, the script, the captures and the journal that they name, and says whether the
+/// journal is one of the run of that script and those captures; if it is, it writes the text of that run into `out`.
 ///
-/// The words are `BUDGET WORKERS NAME JOURNAL SCRIPT [PORT=IN ..]`. Refusals come in this order: the words (64); the script, not
-/// read (66), too big or not in form (65); each capture, not read (66), too many bytes, not in form, too many packets (65); the
-/// journal, not read (66), too big or not in form (65); the journal's first event that is not allowed, or its end that is not that
-/// of the run (3). Then comes the write (74). 71 may stand in place of any. `stock` are the blank nodes of the run.
+/// The words are `BUDGET WORKERS NAME JOURNAL SCRIPT [PORT=IN ..]`. Refusals come in this order: the words (64); the
+/// script, not read (66), too big or not in form (65); each capture, not read (66), too many bytes, not in form, too
+/// many packets (65); the journal, not read (66), too big or not in form (65); the journal's first event that is not
+/// allowed, or its end that is not that of the run (3). Then comes the write (74). 71 may stand in place of any.
+/// `stock` are the blank nodes of the run.
 pub fn ngreplay<B: Node, F: Files, O: Sink>(
     alloc: Global,
     words: &[String],
@@ -138,23 +140,8 @@ pub fn ngreplay<B: Node, F: Files, O: Sink>(
     stock: Vec<B>,
 ) -> Replayed
     requires stocked { IsStocked B.state stock.items }
-    ensures ends { EndsBy (kinds_of B.state stock.items) (replay_words_of (map (λ word. string_bytes word) words.now)) (outside (storing (O.contents out.old) (F.contents files.old)) (storing (O.contents out.new) (F.contents files.new))
-        (counting (O.faults out.old) (F.faults files.old)) (counting (O.faults out.new) (F.faults files.new))) result.status result.fault }
-    ensures usage { UsageComes (replay_words_of (map (λ word. string_bytes word) words.now)) result.fault }
-    ensures comes { FaultComes (kinds_of B.state stock.items) (replay_words_of (map (λ word. string_bytes word) words.now)) (outside (storing (O.contents out.old) (F.contents files.old)) (storing (O.contents out.new) (F.contents files.new))
-        (counting (O.faults out.old) (F.faults files.old)) (counting (O.faults out.new) (F.faults files.new))) result.fault }
-    ensures judges { Judges (kinds_of B.state stock.items) (replay_words_of (map (λ word. string_bytes word) words.now)) (outside (storing (O.contents out.old) (F.contents files.old)) (storing (O.contents out.new) (F.contents files.new))
-        (counting (O.faults out.old) (F.faults files.old)) (counting (O.faults out.new) (F.faults files.new))) result.fault }
-    ensures accepts { Accepts (kinds_of B.state stock.items) (replay_words_of (map (λ word. string_bytes word) words.now)) (outside (storing (O.contents out.old) (F.contents files.old)) (storing (O.contents out.new) (F.contents files.new))
-        (counting (O.faults out.old) (F.faults files.old)) (counting (O.faults out.new) (F.faults files.new))) result.fault }
-    ensures refuses { Refuses (kinds_of B.state stock.items) (replay_words_of (map (λ word. string_bytes word) words.now)) (outside (storing (O.contents out.old) (F.contents files.old)) (storing (O.contents out.new) (F.contents files.new))
-        (counting (O.faults out.old) (F.faults files.old)) (counting (O.faults out.new) (F.faults files.new))) result.fault }
-    ensures reads { ReadsOnly (replay_words_of (map (λ word. string_bytes word) words.now)) (outside (storing (O.contents out.old) (F.contents files.old)) (storing (O.contents out.new) (F.contents files.new))
-        (counting (O.faults out.old) (F.faults files.old)) (counting (O.faults out.new) (F.faults files.new))) result.fault }
-    ensures prefix { LeavesPrefix (kinds_of B.state stock.items) (replay_words_of (map (λ word. string_bytes word) words.now)) (outside (storing (O.contents out.old) (F.contents files.old)) (storing (O.contents out.new) (F.contents files.new))
-        (counting (O.faults out.old) (F.faults files.old)) (counting (O.faults out.new) (F.faults files.new))) result.fault }
-    ensures quiet { RefusesQuietly (outside (storing (O.contents out.old) (F.contents files.old)) (storing (O.contents out.new) (F.contents files.new))
-        (counting (O.faults out.old) (F.faults files.old)) (counting (O.faults out.new) (F.faults files.new))) result.fault }
+    ensures { IsReplayCall (kinds_of B.state stock.items) (replay_words_of (texts words.now))
+        (happened O.contents O.faults F.contents F.faults out.old out.new files.old files.new) result }
 {
     ended_by(replay_call(alloc, words, files, out, stock))
 }

@@ -1,5 +1,5 @@
 // A core is made and runs all inputs.
-ghost use Rattle.std.specs.Prelude.{◌≡◌, ◌<◌, ◌+◌, List, length, map, IfOk};
+ghost use Rattle.std.specs.Prelude.{◌≡◌, ◌<◌, ◌≤◌, ◌+◌, List, length, map, IfOk};
 ghost use Rattle.ng_machine.specs.declared.input.Input.{Input as TheInput};
 ghost use Rattle.ng_machine.specs.Laws.{world_after};
 ghost use Rattle.ng_machine.specs.State.{kind_of};
@@ -107,13 +107,11 @@ pub fn run_core<R: Threads + Wait + Sync, B: Node, G: Gate + Sync>(
 ) -> Result<Core<B>, NoMemory>
     requires stocked { IsStocked B.state stock.items }
     requires may { MayRun (setting_of (map (λ b. kind_of (B.state b)) stock.items) words.now inputs.items) }
+    requires few { words.now.workers ≤ 16 }
     ensures run { IfOk result (λ core. IsRun (setting_of (map (λ b. kind_of (B.state b)) stock.items) words.now inputs.items) words.now.workers core.journal) }
     ensures ports { IfOk result (λ core. length (world_of (story core)).ports ≡ length (ports_from words.now.source)) }
     ensures world { IfOk result (λ core. world_of (story core) ≡ world_after (setting_of (map (λ b. kind_of (B.state b)) stock.items) words.now inputs.items) core.journal) }
 {
-    if words.workers == u32::MAX {
-        return Err(NoMemory);
-    }
     let seats = words.workers + 1;
     if words.workers == 0 {
         return run_plainly(alloc, words, stock, inputs, seats);

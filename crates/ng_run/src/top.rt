@@ -1,21 +1,20 @@
 // The top call.
-ghost use Rattle.std.specs.Prelude.{◌≡◌, ◌≤◌, ℕ, List, [], Option, Some, if◌then◌else◌, map, length, string_bytes, IfOk};
+ghost use Rattle.std.specs.Prelude.{◌≡◌, [], Some, if◌then◌else◌};
 ghost use Rattle.std.specs.List.{list_any};
 ghost use Rattle.ng_laws.specs.printable.Printable.{ToldIsPrintable, LeftIsWritable};
 ghost use Rattle.ng_laws.specs.printable.Scripts.{InputsAreOfScript, InputsAreFit, InputsAreTimed};
 ghost use Rattle.ngctl_script.specs.Held.{AreCommands};
 ghost use Rattle.ng_call.specs.Writes.{is_stop, is_error};
-ghost use Rattle.ng_machine.specs.State.{kind_of};
-ghost use Rattle.ng_outside.specs.Contents.{Contents};
 ghost use Rattle.ng_core.specs.CoreStory.{story};
 ghost use Rattle.ng_machine.specs.story.Story.{world_of};
 ghost use Rattle.ng_args.specs.Run.{words_of, ports_from};
-ghost use Rattle.ng_call.specs.declared.ended.Fault.TheVariants.{NoMemory as no_memory};
 ghost use Rattle.ng_call.specs.Said.{InForm};
 ghost use Rattle.ng_core.specs.Stocked.{IsStocked};
-ghost use Rattle.ng_call.specs.Exactly.{UsageComes, FaultComes, Completes, ReadsOnly, WritesOnly, LeavesPrefix, RefusesQuietly, DoesAll, KeepsOthers, RunsPlainly, WritesEach};
-ghost use Rattle.ng_call.specs.Ends.{EndsBy, EndsWith, fault_status};
-ghost use Rattle.ng_call.specs.Parts.{storing, outside, counting, AllPass};
+ghost use Rattle.ng_call.specs.Behaves.{IsRunCall};
+ghost use Rattle.ng_call.specs.Call.{fault_status, run_task};
+ghost use Rattle.ng_call.specs.Called.{happened, kinds_of, texts};
+ghost use Rattle.ng_call.specs.Parts.{AllPass};
+ghost use Rattle.ng_call.specs.ending.Task.{EndsBy, EndsWith};
 
 use crate::making::run_core;
 use crate::text::has_error;
@@ -84,7 +83,8 @@ fn know_run()
 
 // 0, 1 where an errno was told, 2 where the run stopped at its limit.
 fn run_status<B: Node>(core: &Core<B>) -> u8
-    ensures { result ≡ (if list_any is_stop core.now.journal then 2 else if list_any is_error (world_of (story core.now)).told then 1 else 0) }
+    ensures { result ≡ (if list_any is_stop core.now.journal then 2
+        else if list_any is_error (world_of (story core.now)).told then 1 else 0) }
 {
     if is_stopped(core.journal()) {
         2
@@ -110,9 +110,11 @@ fn run_read<R: Threads + Wait + Sync, B: Node, F: Files, O: Sink, G: Gate + Sync
     requires stocked { IsStocked B.state stock.items }
     requires form { InForm words.now }
     requires ports { ports.now ≡ ports_from words.now.source }
-    requires read { AllPass (F.contents files.old) words.now.source read.script.script read.script.commands.items read.captures.items }
-    ensures { EndsWith (map (λ b. kind_of (B.state b)) stock.items) words.now (outside (storing (O.contents out.old) (F.contents files.old)) (storing (O.contents out.new) (F.contents files.new))
-        (counting (O.faults out.old) (F.faults files.old)) (counting (O.faults out.new) (F.faults files.new))) result.status result.journal.items result.fault }
+    requires read { AllPass (F.contents files.old) words.now.source
+        read.script.script read.script.commands.items read.captures.items }
+    ensures { EndsWith (run_task (kinds_of B.state stock.items)) words.now
+        (happened O.contents O.faults F.contents F.faults out.old out.new files.old files.new)
+        result.status result.journal.items result.fault }
 {
     let ReadIn { script, captures } = read;
     let ReadScript { script, commands } = script;
@@ -166,8 +168,9 @@ fn run_words<R: Threads + Wait + Sync, B: Node, F: Files, O: Sink, G: Gate + Syn
 ) -> Ended
     requires stocked { IsStocked B.state stock.items }
     requires form { InForm words.now }
-    ensures { EndsWith (map (λ b. kind_of (B.state b)) stock.items) words.now (outside (storing (O.contents out.old) (F.contents files.old)) (storing (O.contents out.new) (F.contents files.new))
-        (counting (O.faults out.old) (F.faults files.old)) (counting (O.faults out.new) (F.faults files.new))) result.status result.journal.items result.fault }
+    ensures { EndsWith (run_task (kinds_of B.state stock.items)) words.now
+        (happened O.contents O.faults F.contents F.faults out.old out.new files.old files.new)
+        result.status result.journal.items result.fault }
 {
     match &words.source {
         Source::FromFiles { script, ports } => {
@@ -204,8 +207,9 @@ fn run_call<R: Threads + Wait + Sync, B: Node, F: Files, O: Sink, G: Gate + Sync
     gate: &G,
 ) -> Ended
     requires stocked { IsStocked B.state stock.items }
-    ensures { EndsBy (map (λ b. kind_of (B.state b)) stock.items) (words_of (map (λ word. string_bytes word) words.now)) (outside (storing (O.contents out.old) (F.contents files.old)) (storing (O.contents out.new) (F.contents files.new))
-        (counting (O.faults out.old) (F.faults files.old)) (counting (O.faults out.new) (F.faults files.new))) result.status result.journal.items result.fault }
+    ensures { EndsBy (run_task (kinds_of B.state stock.items)) (words_of (texts words.now))
+        (happened O.contents O.faults F.contents F.faults out.old out.new files.old files.new)
+        result.status result.journal.items result.fault }
 {
     match read_words(alloc, words) {
         Ok(Some(said)) => run_words(rt, alloc, &said, files, out, stock, gate),
@@ -214,14 +218,18 @@ fn run_call<R: Threads + Wait + Sync, B: Node, F: Files, O: Sink, G: Gate + Sync
     }
 }
 
-/// The call of a run: reads the words, the script and the captures that they name, runs them, and writes the text of the
-/// run into `out`, the captures that leave, in order of ports, and the journal.
+/// The call of a run: reads the words, the script and the captures that they name, runs them, and writes the text of
+/// the run into `out`, the captures that leave, in order of ports, and the journal.
 ///
-/// The words are `[-w WORKERS] [-b BUDGET] [-n NAME] [-j JOURNAL] SCRIPT [PORT=IN,OUT ..]`, or `-g N` in place of SCRIPT
-/// and the ports. Refusals come in this order: the words (64); the script, not read (66), too big or not in form (65);
-/// each capture, not read (66), too many bytes, not in form, too many packets (65). Then come the run and the writes
-/// (74). 71 may stand in place of any. `stock` are the blank nodes: a socket and 64 ethers among them. `rt` starts a thread for
-/// each worker, and each item that a worker takes passes `gate` before the work on it. Waits for the threads.
+/// The words are `[-w WORKERS] [-b BUDGET] [-n NAME] [-j JOURNAL] SCRIPT [PORT=IN,OUT ..]`, or `-g N` in place of
+/// SCRIPT and the ports. Refusals come in this order: the words (64); the script, not read (66), too big or not in form
+/// (65); each capture, not read (66), too many bytes, not in form, too many packets (65). Then come the run and the
+/// writes (74). 71 may stand in place of any. `stock` are the blank nodes: a socket and 64 ethers among them. `rt`
+/// starts a thread for each worker, and each item that a worker takes passes `gate` before the work on it. Waits for
+/// the threads.
+///
+/// Its clause is one record, `IsRunCall`: what holds of each call of a task (`Behaves`), that without workers the
+/// journal is the plain one, and that it keeps the laws however the call ends.
 pub fn ngrun<R: Threads + Wait + Sync, B: Node, F: Files, O: Sink, G: Gate + Sync>(
     rt: &R,
     alloc: Global,
@@ -232,29 +240,8 @@ pub fn ngrun<R: Threads + Wait + Sync, B: Node, F: Files, O: Sink, G: Gate + Syn
     gate: &G,
 ) -> Ended
     requires stocked { IsStocked B.state stock.items }
-    ensures ends { EndsBy (map (λ b. kind_of (B.state b)) stock.items) (words_of (map (λ word. string_bytes word) words.now)) (outside (storing (O.contents out.old) (F.contents files.old)) (storing (O.contents out.new) (F.contents files.new))
-        (counting (O.faults out.old) (F.faults files.old)) (counting (O.faults out.new) (F.faults files.new))) result.status result.journal.items result.fault }
-    ensures usage { UsageComes (words_of (map (λ word. string_bytes word) words.now)) result.fault }
-    ensures comes { FaultComes (map (λ b. kind_of (B.state b)) stock.items) (words_of (map (λ word. string_bytes word) words.now)) (outside (storing (O.contents out.old) (F.contents files.old)) (storing (O.contents out.new) (F.contents files.new))
-        (counting (O.faults out.old) (F.faults files.old)) (counting (O.faults out.new) (F.faults files.new))) result.fault }
-    ensures complete { Completes (map (λ b. kind_of (B.state b)) stock.items) (words_of (map (λ word. string_bytes word) words.now)) (outside (storing (O.contents out.old) (F.contents files.old)) (storing (O.contents out.new) (F.contents files.new))
-        (counting (O.faults out.old) (F.faults files.old)) (counting (O.faults out.new) (F.faults files.new))) result.journal.items result.fault }
-    ensures plain { RunsPlainly (map (λ b. kind_of (B.state b)) stock.items) (words_of (map (λ word. string_bytes word) words.now)) (outside (storing (O.contents out.old) (F.contents files.old)) (storing (O.contents out.new) (F.contents files.new))
-        (counting (O.faults out.old) (F.faults files.old)) (counting (O.faults out.new) (F.faults files.new))) result.journal.items result.fault }
-    ensures reads { ReadsOnly (map (λ b. kind_of (B.state b)) stock.items) (words_of (map (λ word. string_bytes word) words.now)) (outside (storing (O.contents out.old) (F.contents files.old)) (storing (O.contents out.new) (F.contents files.new))
-        (counting (O.faults out.old) (F.faults files.old)) (counting (O.faults out.new) (F.faults files.new))) result.fault }
-    ensures writes { WritesOnly (map (λ b. kind_of (B.state b)) stock.items) (words_of (map (λ word. string_bytes word) words.now)) (outside (storing (O.contents out.old) (F.contents files.old)) (storing (O.contents out.new) (F.contents files.new))
-        (counting (O.faults out.old) (F.faults files.old)) (counting (O.faults out.new) (F.faults files.new))) result.journal.items result.fault }
-    ensures prefix { LeavesPrefix (map (λ b. kind_of (B.state b)) stock.items) (words_of (map (λ word. string_bytes word) words.now)) (outside (storing (O.contents out.old) (F.contents files.old)) (storing (O.contents out.new) (F.contents files.new))
-        (counting (O.faults out.old) (F.faults files.old)) (counting (O.faults out.new) (F.faults files.new))) result.journal.items result.fault }
-    ensures quiet { RefusesQuietly (outside (storing (O.contents out.old) (F.contents files.old)) (storing (O.contents out.new) (F.contents files.new))
-        (counting (O.faults out.old) (F.faults files.old)) (counting (O.faults out.new) (F.faults files.new))) result.journal.items result.fault }
-    ensures done { DoesAll (map (λ b. kind_of (B.state b)) stock.items) (words_of (map (λ word. string_bytes word) words.now)) (outside (storing (O.contents out.old) (F.contents files.old)) (storing (O.contents out.new) (F.contents files.new))
-        (counting (O.faults out.old) (F.faults files.old)) (counting (O.faults out.new) (F.faults files.new))) result.journal.items result.fault }
-    ensures others { KeepsOthers (map (λ b. kind_of (B.state b)) stock.items) (words_of (map (λ word. string_bytes word) words.now)) (outside (storing (O.contents out.old) (F.contents files.old)) (storing (O.contents out.new) (F.contents files.new))
-        (counting (O.faults out.old) (F.faults files.old)) (counting (O.faults out.new) (F.faults files.new))) result.journal.items result.fault }
-    ensures each { WritesEach (map (λ b. kind_of (B.state b)) stock.items) (words_of (map (λ word. string_bytes word) words.now)) (outside (storing (O.contents out.old) (F.contents files.old)) (storing (O.contents out.new) (F.contents files.new))
-        (counting (O.faults out.old) (F.faults files.old)) (counting (O.faults out.new) (F.faults files.new))) result.journal.items result.fault }
+    ensures { IsRunCall (kinds_of B.state stock.items) (words_of (texts words.now))
+        (happened O.contents O.faults F.contents F.faults out.old out.new files.old files.new) result }
 {
     run_call(rt, alloc, words, files, out, stock, gate)
 }

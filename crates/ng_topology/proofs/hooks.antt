@@ -1,1 +1,2 @@
 pub mod HookLemmas
+pub mod JoinedLemmas

@@ -7,7 +7,7 @@ ghost use Rattle.ng_machine.specs.Case.{absorb};
 ghost use Rattle.ng_machine.specs.Rules.{may_of};
 ghost use Rattle.ng_machine.specs.State.{State, kind_of, blank_of, way_of};
 ghost use Rattle.ng_machine.specs.World.{is_named, linked_hook, kind_at, state_of, has_hook, hook_of, with_hook, without_hook, without_hooks, with_changed_hook, settle_hook, bind_to, blank_node};
-ghost use Rattle.ng_topology.specs.hooks.Hooks.{NamesDiffer};
+ghost use Rattle.ng_topology.specs.hooks.Hooks.{NamesDiffer, count_joined};
 ghost use Rattle.ng_topology.specs.NodeEntry.{AcceptsHook, entry_as, with_node, without_all};
 ghost use Rattle.ng_topology.specs.Topology.{FitsNode, with_kept};
 
@@ -115,6 +115,13 @@ impl<B: Node> Entry<B> {
         ensures { result.now ≡ self.now.node.hooks }
     {
         self.hooks.as_slice()
+    }
+
+    /// How many of the hooks are joined.
+    pub fn joined(&self) -> usize
+        ensures { result ≡ count_joined self.now.node.hooks }
+    {
+        self.hooks.joined()
     }
 
     /// The hook of that name, if there is one.

@@ -9,6 +9,7 @@ ghost use Rattle.ng_machine.specs.State.{kind_of, blank_of, way_of};
 ghost use Rattle.ng_machine.specs.Stock.{has_kind};
 ghost use Rattle.ng_machine.specs.World.{World, NodeRecord, node_in, node_at, kind_at, state_of, hook_at, has_hook, find_named, node_id, link_id, new_hook, with_hook, without_hook, without_hooks, with_changed_hook, settle_hook, bind_to, blank_node};
 ghost use Rattle.ng_topology.specs.Topology.{empty_graph, linked_hook_at, name_of, is_end, is_free, IsThere, IsAtHome, IsSound, FitsNodeAt, MayGetHook, change_node, make_node, retire_node, use_link, lend_box, give_box, sprout_node, world_of, address_of};
+ghost use Rattle.ng_topology.specs.hooks.Hooks.{count_joined};
 ghost use Rattle.ng_machine.specs.Walk.{if_there, head_at, peer_of, follow, walk};
 ghost use Rattle.ng_topology.specs.declared.graph.MakeFault.TheVariants.{Used};
 
@@ -139,6 +140,17 @@ impl<B: Node> Graph<B> {
     {
         match self.places.entry(id) {
             Some(entry) => entry.hooks(),
+            None => unreachable!(),
+        }
+    }
+
+    /// How many of the hooks of a node that is there are joined.
+    pub fn joined(&self, id: NodeId) -> usize
+        requires { IsThere self.now id }
+        ensures { (node : NodeRecord) → node_in self.now.nodes id ≡ Some node → result ≡ count_joined node.hooks }
+    {
+        match self.places.entry(id) {
+            Some(entry) => entry.joined(),
             None => unreachable!(),
         }
     }

@@ -1,3 +1,4 @@
 pub mod LineByLine
 pub mod Entries
 pub mod InOrder
+pub mod Pieces

@@ -1,9 +1,10 @@
-//! The whole text of a run, put into a sink line by line, and the captures that leave.
+//! The whole text of a run, put into a sink in pieces, and the captures that leave.
 mod answers;
 mod captures;
 mod commands;
 mod help;
 mod lines;
+mod piece;
 mod printable;
 mod report;
 mod text;

@@ -5,21 +5,28 @@ ghost use Rattle.ngctl_script.specs.Refusals.{refusal_words};
 use crate::Verb;
 use ng_base::{Bytes, NoMemory};
 use std::alloc::Global;
+use thiserror::Error;
 
 /// Why a line asks for nothing: the first of these, in this order, that is true of its words.
-#[derive(Clone, Copy, Debug, PartialEq, Eq)]
+#[derive(Clone, Copy, Debug, PartialEq, Eq, Error)]
 pub enum Refusal {
     /// No command has the first word as its name or as a prefix of it.
+    #[error("unknown command")]
     Unknown,
     /// The first word is no command's name and a prefix of several.
+    #[error("ambiguous command")]
     Ambiguous,
     /// The words behind the name of this command are too few, too many, or no option of it.
+    #[error("usage: {}", .0.usage())]
     Usage(Verb),
     /// A word that is to name a hook, a type or a node is no name.
+    #[error("bad name")]
     BadName,
     /// A word that is to be an address is none.
+    #[error("bad path")]
     BadPath,
     /// A word that is to be a byte is no integer from 0 to 255.
+    #[error("bad byte")]
     BadByte,
 }
 

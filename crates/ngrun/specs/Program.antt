@@ -6,11 +6,11 @@ use Rattle.ng_outside.specs.Write.{AppendsPrefix}
 use Rattle.ng_call.specs.ending.Outside.{Outside, Same}
 use Rattle.ng_call.specs.declared.ended.Fault.{Fault}
 use Rattle.ng_call.specs.declared.ended.Fault.TheVariants.{NoMemory}
-use Rattle.ng_call.specs.Ends.{fault_status}
+use Rattle.ng_call.specs.Call.{fault_status}
 use Rattle.ng_call.specs.Line.{fault_line}
 use Rattle.ng_stock.specs.Stocked.{stocked}
-use Rattle.ngrun.specs.declared.top.Ran.{Ran}
-use Rattle.ngrun.specs.Top.{IsTop, line_of, status_of}
+use Rattle.ng_top.specs.declared.top.Ran.{Ran}
+use Rattle.ng_top.specs.Top.{IsTop, line_of, status_of}
 
 -- what the error output held and holds, where it tells, and its counts of faults
 pub record SinkChange : Type 0 where
@@ -18,6 +18,15 @@ pub record SinkChange : Type 0 where
   pub now : Option (List ℕ)
   pub before : ℕ
   pub after : ℕ
+
+-- an error output before and after
+abbrev pub changed : {E : Type 0} (held : E → Option (List ℕ)) (faults : E → ℕ) (errors errors_now : E) → SinkChange
+changed held faults errors errors_now = record {
+  old = held errors;
+  now = held errors_now;
+  before = faults errors;
+  after = faults errors_now;
+}
 
 -- a line is put, or a prefix of it where the sink failed
 abbrev pub Puts : List ℕ → SinkChange → Type 0

@@ -15,7 +15,6 @@
 mod program;
 mod stocked;
 mod tell;
-mod top;
 mod words;
 
 use ng_outside::{OpenGate, StdFiles, StdSink};

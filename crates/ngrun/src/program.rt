@@ -1,14 +1,14 @@
 // The whole program over any files and sinks.
-ghost use Rattle.std.specs.Prelude.{◌≡◌, map, string_bytes};
-ghost use Rattle.ng_call.specs.Parts.{storing, outside, counting};
-ghost use Rattle.ngrun.specs.Program.{IsProgram};
-ghost use Rattle.ngrun.specs.Top.{status_of};
+ghost use Rattle.std.specs.Prelude.{◌≡◌};
+ghost use Rattle.ng_call.specs.Called.{happened, texts};
+ghost use Rattle.ngrun.specs.Program.{IsProgram, changed};
+ghost use Rattle.ng_top.specs.Top.{status_of};
 
 use crate::stocked::run_stocked;
 use crate::tell::{OUT_OF_MEMORY_LINE, put, tell_end};
-use crate::top::Ran;
 use ng_base::NoMemory;
 use ng_outside::{Files, Gate, Sink};
+use ng_top::Ran;
 use std::alloc::Global;
 use std::sync::Wait;
 use std::thread::Threads;
@@ -25,9 +25,9 @@ fn status_of(ran: &Ran) -> u8
     }
 }
 
-/// Does what the words ask for, with its text into `out` and the line of a fault into `errors`, and gives the exit status.
-/// The statuses are those of [`ng_call::Ended`], [`ng_replay::Replayed`] and [`ng_forecast::Forecast`]. `rt` starts the threads of the workers of a run, and each item
-/// that these take passes `gate`.
+/// Does what the words ask for, with its text into `out` and the line of a fault into `errors`, and gives the exit
+/// status. The statuses are those of [`ng_call::Ended`], [`ng_replay::Replayed`] and [`ng_forecast::Forecast`]. `rt`
+/// starts the threads of the workers of a run, and each item that these take passes `gate`.
 pub fn program<R: Threads + Wait + Sync, F: Files, O: Sink, E: Sink, G: Gate + Sync>(
     rt: &R,
     alloc: Global,
@@ -37,9 +37,9 @@ pub fn program<R: Threads + Wait + Sync, F: Files, O: Sink, E: Sink, G: Gate + S
     errors: &mut E,
     gate: &G,
 ) -> u8
-    ensures { IsProgram (map (λ word. string_bytes word) words.now) (outside (storing (O.contents out.old) (F.contents files.old)) (storing (O.contents out.new) (F.contents files.new))
-        (counting (O.faults out.old) (F.faults files.old)) (counting (O.faults out.new) (F.faults files.new)))
-        (record { old = E.contents errors.old; now = E.contents errors.new; before = E.faults errors.old; after = E.faults errors.new }) result }
+    ensures { IsProgram (texts words.now)
+        (happened O.contents O.faults F.contents F.faults out.old out.new files.old files.new)
+        (changed E.contents E.faults errors.old errors.new) result }
 {
     match run_stocked(rt, alloc, words, files, out, gate) {
         Ok(ran) => {

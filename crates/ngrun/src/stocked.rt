@@ -1,14 +1,15 @@
 // The top call with the blank nodes of the program.
-ghost use Rattle.std.specs.Prelude.{map, string_bytes, IfOk, OnErr};
+ghost use Rattle.std.specs.Prelude.{IfOk, OnErr};
 ghost use Rattle.ng_call.specs.ending.Outside.{Same};
-ghost use Rattle.ng_call.specs.Parts.{storing, outside, counting};
+ghost use Rattle.ng_call.specs.Called.{happened, texts};
+ghost use Rattle.ng_call.specs.Parts.{storing};
 ghost use Rattle.ng_stock.specs.Stocked.{stocked};
-ghost use Rattle.ngrun.specs.Top.{IsTop};
+ghost use Rattle.ng_top.specs.Top.{IsTop};
 
-use crate::top::{Ran, ngtop};
 use ng_base::NoMemory;
 use ng_outside::{Files, Gate, Sink};
 use ng_stock::{stock, stock_suffices};
+use ng_top::{Ran, ngtop};
 use std::alloc::Global;
 use std::sync::Wait;
 use std::thread::Threads;
@@ -25,9 +26,10 @@ pub fn run_stocked<R: Threads + Wait + Sync, F: Files, O: Sink, G: Gate + Sync>(
     out: &mut O,
     gate: &G,
 ) -> Result<Ran, NoMemory>
-    ensures top { IfOk result (λ ran. IsTop stocked (map (λ word. string_bytes word) words.now) (outside (storing (O.contents out.old) (F.contents files.old)) (storing (O.contents out.new) (F.contents files.new))
-        (counting (O.faults out.old) (F.faults files.old)) (counting (O.faults out.new) (F.faults files.new))) ran) }
-    ensures same { OnErr result (Same (storing (O.contents out.old) (F.contents files.old)) (storing (O.contents out.new) (F.contents files.new))) }
+    ensures top { IfOk result (λ ran. IsTop stocked (texts words.now)
+        (happened O.contents O.faults F.contents F.faults out.old out.new files.old files.new) ran) }
+    ensures same { OnErr result (Same (storing (O.contents out.old) (F.contents files.old))
+        (storing (O.contents out.new) (F.contents files.new))) }
 {
     let stock = stock(alloc)?;
     stock_suffices();

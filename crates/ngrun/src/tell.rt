@@ -1,20 +1,21 @@
 // The line of a fault, on standard error.
-ghost use Rattle.std.specs.Prelude.{◌≡◌, ℕ, List, map, string_bytes, IfOk, OnErr};
+ghost use Rattle.std.specs.Prelude.{◌≡◌, ℕ, List, IfOk, OnErr};
 ghost use Rattle.ng_forecast.specs.Line as forecast;
 ghost use Rattle.ng_replay.specs.Line.{replay_line};
+ghost use Rattle.ng_call.specs.Called.{texts};
 ghost use Rattle.ng_call.specs.Line.{fault_line};
 ghost use Rattle.ng_args.specs.Forecast.{forecast_words_of};
 ghost use Rattle.ng_args.specs.Replay.{replay_words_of};
 ghost use Rattle.ng_args.specs.Run.{words_of};
-ghost use Rattle.ngrun.specs.Program.{Puts, Tells, TellsIf, memory_line};
-ghost use Rattle.ngrun.specs.Top.{line_of};
+ghost use Rattle.ngrun.specs.Program.{Puts, Tells, TellsIf, changed, memory_line};
+ghost use Rattle.ng_top.specs.Top.{line_of};
 
-use crate::top::{Ran, behind_first};
 use ng_base::NoMemory;
 use ng_call::{Fault, fault_line};
 use ng_forecast::{ForecastFault, forecast_fault_line};
 use ng_outside::{Sink, put_all};
 use ng_replay::{ReplayFault, replay_fault_line};
+use ng_top::{Ran, behind_first};
 use std::alloc::Global;
 
 /// What is told where memory ran out.
@@ -25,7 +26,7 @@ pub const OUT_OF_MEMORY_LINE: &[u8] = b"ngrun: out of memory\n";
 /// # Errors
 /// `NoMemory` where memory ran out, and for nothing else.
 pub fn run_line(alloc: Global, fault: &Fault, words: &[String]) -> Result<Vec<u8>, NoMemory>
-    ensures { IfOk result (λ line. line.items ≡ fault_line fault.now (words_of (map (λ word. string_bytes word) words.now))) }
+    ensures { IfOk result (λ line. line.items ≡ fault_line fault.now (words_of (texts words.now))) }
 {
     let mut line = Vec::new(alloc);
     fault_line(alloc, fault, words, &mut line)?;
@@ -34,7 +35,7 @@ pub fn run_line(alloc: Global, fault: &Fault, words: &[String]) -> Result<Vec<u8
 
 // That of a replay with these words behind the first.
 fn replay_line(alloc: Global, fault: &ReplayFault, words: &[String]) -> Result<Vec<u8>, NoMemory>
-    ensures { IfOk result (λ line. line.items ≡ replay_line fault.now (replay_words_of (map (λ word. string_bytes word) words.now))) }
+    ensures { IfOk result (λ line. line.items ≡ replay_line fault.now (replay_words_of (texts words.now))) }
 {
     let mut line = Vec::new(alloc);
     replay_fault_line(alloc, fault, words, &mut line)?;
@@ -47,7 +48,7 @@ fn forecast_line(
     fault: &ForecastFault,
     words: &[String],
 ) -> Result<Vec<u8>, NoMemory>
-    ensures { IfOk result (λ line. line.items ≡ forecast.fault_line fault.now (forecast_words_of (map (λ word. string_bytes word) words.now))) }
+    ensures { IfOk result (λ line. line.items ≡ forecast.fault_line fault.now (forecast_words_of (texts words.now))) }
 {
     let mut line = Vec::new(alloc);
     forecast_fault_line(alloc, fault, words, &mut line)?;
@@ -56,7 +57,7 @@ fn forecast_line(
 
 /// Puts a line. Nobody is told where the sink fails.
 pub fn put<E: Sink>(line: &[u8], errors: &mut E)
-    ensures { Puts line.now (record { old = E.contents errors.old; now = E.contents errors.new; before = E.faults errors.old; after = E.faults errors.new }) }
+    ensures { Puts line.now (changed E.contents E.faults errors.old errors.new) }
 {
     let told = put_all(errors, line);
     let _ = told;
@@ -64,9 +65,10 @@ pub fn put<E: Sink>(line: &[u8], errors: &mut E)
 
 /// Puts a line that was made, or that of a want of memory where it could not be made.
 pub fn tell<E: Sink>(made: Result<Vec<u8>, NoMemory>, errors: &mut E)
-    ensures made { IfOk made (λ bytes. Puts bytes.items (record { old = E.contents errors.old; now = E.contents errors.new; before = E.faults errors.old; after = E.faults errors.new })) }
-    ensures short { OnErr made (Puts memory_line (record { old = E.contents errors.old; now = E.contents errors.new; before = E.faults errors.old; after = E.faults errors.new })) }
-    ensures told { (line : List ℕ) → IfOk made (λ bytes. bytes.items ≡ line) → Tells line (record { old = E.contents errors.old; now = E.contents errors.new; before = E.faults errors.old; after = E.faults errors.new }) }
+    ensures made { IfOk made (λ bytes. Puts bytes.items (changed E.contents E.faults errors.old errors.new)) }
+    ensures short { OnErr made (Puts memory_line (changed E.contents E.faults errors.old errors.new)) }
+    ensures told { (line : List ℕ) → IfOk made (λ bytes. bytes.items ≡ line)
+        → Tells line (changed E.contents E.faults errors.old errors.new) }
 {
     match made {
         Ok(line) => put(&line, errors),
@@ -76,7 +78,7 @@ pub fn tell<E: Sink>(made: Result<Vec<u8>, NoMemory>, errors: &mut E)
 
 /// Puts the line of the fault of a call with these words that ended so, or nothing where it ended well.
 pub fn tell_end<E: Sink>(alloc: Global, ran: &Ran, words: &[String], errors: &mut E)
-    ensures { TellsIf (line_of (map (λ word. string_bytes word) words.now) ran.now) (record { old = E.contents errors.old; now = E.contents errors.new; before = E.faults errors.old; after = E.faults errors.new }) }
+    ensures { TellsIf (line_of (texts words.now) ran.now) (changed E.contents E.faults errors.old errors.new) }
 {
     match ran {
         Ran::Run(ended) => {

@@ -1,7 +1,7 @@
 // The words of the command line.
 ghost use Rattle.std.specs.Prelude.{◌≡◌, ◌≢◌, drop};
 ghost use Rattle.ng_call.specs.declared.ended.Fault.{Fault};
-ghost use Rattle.ngrun.specs.Program.{IsWordless};
+ghost use Rattle.ngrun.specs.Program.{IsWordless, changed};
 
 use crate::tell::{run_line, tell};
 use ng_call::Fault;
@@ -27,8 +27,10 @@ pub fn behind_name(args: Vec<String>) -> Vec<String>
 /// Tells why the words couldn't be taken, and gives the exit status: 71 where memory ran out, 64 where a word is no
 /// UTF-8.
 pub fn wordless<E: Sink>(alloc: Global, kind: ErrorKind, errors: &mut E) -> u8
-    ensures memory { kind ≡ ErrorKind.OutOfMemory → IsWordless Fault.NoMemory (record { old = E.contents errors.old; now = E.contents errors.new; before = E.faults errors.old; after = E.faults errors.new }) result }
-    ensures text { kind ≢ ErrorKind.OutOfMemory → IsWordless Fault.Usage (record { old = E.contents errors.old; now = E.contents errors.new; before = E.faults errors.old; after = E.faults errors.new }) result }
+    ensures memory { kind ≡ ErrorKind.OutOfMemory
+        → IsWordless Fault.NoMemory (changed E.contents E.faults errors.old errors.new) result }
+    ensures text { kind ≢ ErrorKind.OutOfMemory
+        → IsWordless Fault.Usage (changed E.contents E.faults errors.old errors.new) result }
 {
     match kind {
         ErrorKind::OutOfMemory => {

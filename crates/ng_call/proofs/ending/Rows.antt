@@ -37,7 +37,7 @@ first_or_failed o (Reads name failed ∷ steps) found fault is (inl read) = inr 
 first_or_failed o (Reads name failed ∷ steps) found fault is (inr later) =
     elim (first_or_failed o steps found fault (later_first (o.old.files name) failed found (first_fault o.old.files steps) later.0 is) later.1) [
       | inl same ↦ inl same
-      | inr reading ↦ inr (inr reading)
+      | inr reading ↦ inr (inr (later.0, reading))
     ]
 first_or_failed o (Checks None ∷ steps) found fault is r = first_or_failed o steps found fault is r
 first_or_failed o (Checks (Some other) ∷ steps) found fault is r = inl (r ∙ some_same other found is)
@@ -48,22 +48,23 @@ pub none_but_failed : {F : Type 0} (o : Outside) (steps : List (Step F)) (fault 
 none_but_failed o [] fault none r = absurd r
 none_but_failed o (Reads name failed ∷ steps) fault none (inl read) = inl read
 none_but_failed o (Reads name failed ∷ steps) fault none (inr later) =
-    inr (none_but_failed o steps fault (none_missing (o.old.files name) failed (first_fault o.old.files steps) none).1 later.1)
+    inr (later.0, none_but_failed o steps fault (none_missing (o.old.files name) failed (first_fault o.old.files steps) none).1 later.1)
 none_but_failed o (Checks None ∷ steps) fault none r = none_but_failed o steps fault none r
 none_but_failed o (Checks (Some found) ∷ steps) fault none r = absurd (cc none)
 
 no_reading : {F : Type 0} (o : Outside) (steps : List (Step F)) (fault : F) → NoReadFailed o steps → FailsReading o steps fault → ⊥
 no_reading o [] fault quiet failed = failed
 no_reading o (Reads name is ∷ steps) fault quiet (inl failed) = quiet.0 failed.1
-no_reading o (Reads name is ∷ steps) fault quiet (inr failed) = no_reading o steps fault quiet.1 failed
-no_reading o (Checks found ∷ steps) fault quiet failed = no_reading o steps fault quiet failed
+no_reading o (Reads name is ∷ steps) fault quiet (inr failed) = no_reading o steps fault quiet.1 failed.1
+no_reading o (Checks None ∷ steps) fault quiet failed = no_reading o steps fault quiet failed
+no_reading o (Checks (Some found) ∷ steps) fault quiet failed = failed
 
 -- a fault of a kind that is not looked for is that of a read
 read_alone : {F : Type 0} (P : F → Type 0) (o : Outside) (steps : List (Step F)) (fault : F) → P fault → NoneChecked P steps
     → Refuses o steps fault → FailsReading o steps fault
 read_alone P o [] fault of unchecked r = absurd r
 read_alone P o (Reads name failed ∷ steps) fault of unchecked (inl read) = inl read
-read_alone P o (Reads name failed ∷ steps) fault of unchecked (inr later) = inr (read_alone P o steps fault of unchecked later.1)
+read_alone P o (Reads name failed ∷ steps) fault of unchecked (inr later) = inr (later.0, read_alone P o steps fault of unchecked later.1)
 read_alone P o (Checks None ∷ steps) fault of unchecked r = read_alone P o steps fault of unchecked r
 read_alone P o (Checks (Some found) ∷ steps) fault of unchecked r = absurd (unchecked.0 (subst (λ f. P f) r of))
 
@@ -177,6 +178,13 @@ module _ {F M : Type 0} (call : Call F M) (o : Outside) (made : M) where
     writes_only (inl e) unchecked unread = absurd (refused_writing e.cause unchecked unread)
     writes_only (inr (inl e)) unchecked unread = absurd (not_memory e.cause)
     writes_only (inr (inr e)) unchecked unread = stopped_writing (write_failed call.no_memory o (call.writes made) fault o.old o.now e.stops)
+
+    -- a fault that is neither looked for nor that of a read, of a write or of memory doesn't come
+    pub never_comes : Ends call o made (Some fault) → NoneChecked P call.steps → NoneReads P call.steps → NoneWrites P (call.writes made) → ⊥
+    never_comes (inl e) unchecked unread unwritten = refused_writing e.cause unchecked unread
+    never_comes (inr (inl e)) unchecked unread unwritten = not_memory e.cause
+    never_comes (inr (inr e)) unchecked unread unwritten =
+        stopped_reading (write_failed call.no_memory o (call.writes made) fault o.old o.now e.stops) unwritten
 
     -- after it the run was whole, and of what was to be written there is a prefix
     pub stopped_alone : Ends call o made (Some fault) → NoneChecked P call.steps → NoneReads P call.steps → IsStopped call o made fault

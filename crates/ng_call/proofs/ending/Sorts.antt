@@ -34,3 +34,20 @@ module _ {F : Type 0} (P : F → Type 0) where
       → NoneWrites P (if test then w ∷ ws else ws)
   if_written true w ws nope rest = (nope, rest)
   if_written false w ws nope rest = rest
+
+-- a sort within another one
+module _ {F : Type 0} (P Q : F → Type 0) (within : (f : F) → Q f → P f) where
+  pub less_checked : (steps : List (Step F)) → NoneChecked P steps → NoneChecked Q steps
+  less_checked [] none = tt
+  less_checked (Reads name failed ∷ steps) none = less_checked steps none
+  less_checked (Checks None ∷ steps) none = less_checked steps none
+  less_checked (Checks (Some found) ∷ steps) none = ((λ is. none.0 (within found is)), less_checked steps none.1)
+
+  pub less_read : (steps : List (Step F)) → NoneReads P steps → NoneReads Q steps
+  less_read [] none = tt
+  less_read (Reads name failed ∷ steps) none = ((λ is. none.0 (within failed is)), less_read steps none.1)
+  less_read (Checks found ∷ steps) none = less_read steps none
+
+  pub less_written : (ws : List (Write F)) → NoneWrites P ws → NoneWrites Q ws
+  less_written [] none = tt
+  less_written (w ∷ ws) none = ((λ is. none.0 (within w.failed is)), less_written ws none.1)

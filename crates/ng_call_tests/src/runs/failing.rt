@@ -323,31 +323,14 @@ fn each_call_of_the_files_may_fail(rt: HostRuntime) -> Result<(), Fail> {
     Ok(())
 }
 
-// The first lines of a text.
-fn first_lines(alloc: Global, text: &str, count: u64) -> Result<String, AllocError> {
-    let mut lines = String::new(alloc);
-    let mut left = count;
-    for line in text.lines() {
-        if left == 0 {
-            break;
-        }
-        lines.push_str(line)?;
-        lines.push_str("\n")?;
-        left -= 1;
-    }
-    Ok(lines)
-}
-
-// Whether the output took as many puts as there were before the one that failed: a byte each, or a line.
-fn is_cut_before(alloc: Global, way: &Way, taken: &[u8], put: u64) -> Result<bool, Fail>
+// Whether the output took as many puts as there were before the one that failed: a byte each, or the whole piece.
+fn is_cut_before(way: &Way, taken: &[u8], put: u64) -> bool
     requires { 0 < put }
 {
     if way.is_slow {
-        let is_so = way.text.as_bytes().starts_with(taken);
-        return Ok(is_so && taken.len() as u64 == put - 1);
+        return way.text.as_bytes().starts_with(taken) && taken.len() as u64 == put - 1;
     }
-    let text = first_lines(alloc, way.text, put - 1)?;
-    Ok(taken == text.as_bytes())
+    taken.is_empty() && put == 1
 }
 
 // Compares what stands after such a run whose put failed, and tells whether one did.
@@ -373,10 +356,7 @@ fn check_put(
         Some(Fault::WriteFault(Which::Sink)),
         "put {put}"
     );
-    assert!(rt;
-        is_cut_before(alloc, way, failing.out.bytes(), put)?,
-        "put {put}"
-    );
+    assert!(rt; is_cut_before(way, failing.out.bytes(), put), "put {put}");
     assert!(rt;
         holds_all(&failing.files, BEFORE, BEFORE, BEFORE),
         "put {put}"
@@ -402,8 +382,8 @@ fn check_puts(
 fn each_put_of_the_text_may_fail(rt: HostRuntime) -> Result<(), Fail> {
     for way in &WAYS {
         let puts = check_puts(&rt, rt.alloc(), way)?;
-        // Each line is put by itself, and by a slow output each byte is.
-        let all = if way.is_slow { way.text.len() } else { 15 };
+        // The text is one piece, and a slow output takes it byte by byte.
+        let all = if way.is_slow { way.text.len() } else { 1 };
         assert_eq!(rt; puts, all as u64, "{}", way.words);
     }
     Ok(())

@@ -1,7 +1,7 @@
 // What stands after an output that fails, and in a journal that has no room.
 use crate::fakes::{Held, ROOM, file, files_of, holds, sink, words_in};
 use ng_call::{Fault, Which, fault_line};
-use ng_outside::OpenGate;
+use ng_outside::{MemSink, OpenGate};
 use ng_run::ngrun;
 use ng_stock::{stock, stock_suffices};
 use std::alloc::Global;
@@ -53,9 +53,9 @@ const EXAMPLES: [Example; 2] = [
             },
         ],
         room: ROOM,
-        failing: 2,
+        failing: 1,
         fault: Fault::WriteFault(Which::Sink),
-        text: "+ mkpeer . echo a b\n",
+        text: "",
         told: "ngrun: can't write output\n",
         left: &[
             ECHO,
@@ -127,5 +127,31 @@ fn a_want_of_memory_is_told(rt: HostRuntime) -> Result<(), Fail> {
     let mut line = Vec::new(rt.alloc());
     fault_line(rt.alloc(), &Fault::NoMemory, &[], &mut line)?;
     assert_eq!(rt; str::from_utf8(&line)?, "ngrun: out of memory\n");
+    Ok(())
+}
+
+// The help of a command 400 times: each prints some 300 bytes.
+fn long_script(alloc: Global) -> Result<Vec<u8>, Fail> {
+    let mut script = Vec::new(alloc);
+    for _ in 0..400 {
+        script.extend_from_slice(b"help\n")?;
+    }
+    Ok(script)
+}
+
+#[test]
+fn a_long_text_is_put_in_pieces_of_whole_entries(rt: HostRuntime) -> Result<(), Fail> {
+    let alloc = rt.alloc();
+    let script = long_script(alloc)?;
+    let words = words_in(alloc, "script")?;
+    let mut files = files_of(alloc, &[file("script", &script)], ROOM, false, 0)?;
+    let mut out = MemSink::new(alloc, 1 << 17, false, [2].to_vec(alloc)?)?;
+    let boxes = stock(alloc)?;
+    stock_suffices();
+    let ended = ngrun(&rt, alloc, &words, &mut files, &mut out, boxes, &OpenGate);
+    assert_eq!(rt; ended.fault, Some(Fault::WriteFault(Which::Sink)));
+    // The first piece is whole, and ends with the line that filled it.
+    assert!(rt; out.bytes().len() >= 65_536 && out.bytes().len() < 66_000);
+    assert!(rt; out.bytes().ends_with(b"\n"));
     Ok(())
 }

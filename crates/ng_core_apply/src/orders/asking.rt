@@ -33,19 +33,6 @@ pub enum Question {
     ListTypes,
 }
 
-// How many of the hooks are joined: none where a number of 32 bits can't say.
-fn count_joined(hooks: &[Hook]) -> Result<u32, NoMemory>
-    ensures { IfOk result (λ count. count ≡ length (filter (λ h. h.joined) hooks.now)) }
-{
-    let mut count = 0u32;
-    for hook in hooks {
-        if hook.joined {
-            count = count.checked_add(1).ok_or(NoMemory)?;
-        }
-    }
-    Ok(count)
-}
-
 // What is told of the node of that number.
 fn node_info<B: Node>(graph: &Graph<B>, id: NodeId) -> Result<NodeInfo, NoMemory>
     ensures { IfOk result (λ info. info ≡ info_of id (node_in graph.now.nodes id)) }
@@ -58,7 +45,7 @@ fn node_info<B: Node>(graph: &Graph<B>, id: NodeId) -> Result<NodeInfo, NoMemory
             hooks: 0,
         });
     };
-    let hooks = count_joined(graph.hooks(id))?;
+    let hooks = u32::try_from(graph.joined(id)).map_err(|_| NoMemory)?;
     Ok(NodeInfo {
         name: graph.name(id).copied(),
         kind: Some(kind),

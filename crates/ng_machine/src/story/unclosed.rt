@@ -2,13 +2,17 @@
 ghost use Rattle.std.specs.Prelude.{◌≡◌};
 ghost use Rattle.ng_machine.specs.story.Closing.{refusal_below};
 
+use thiserror::Error;
+
 /// Why a core isn't closed: fewer items were applied than may be, and there is more to do. The first of these, in this order,
 /// that holds.
-#[derive(Clone, Copy, Debug, PartialEq, Eq)]
+#[derive(Clone, Copy, Debug, PartialEq, Eq, Error)]
 pub enum Unclosed {
     /// So many items are pending.
+    #[error("{0} items are pending")]
     Pending(u64),
     /// Nothing is pending, and so many inputs are unfed.
+    #[error("{0} inputs are unfed")]
     Unfed(u64),
 }
 

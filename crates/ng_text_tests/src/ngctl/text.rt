@@ -161,7 +161,7 @@ fn ports_stand_behind_the_summary(rt: HostRuntime) -> Result<(), Fail> {
     let mut sink = sink_of(rt.alloc())?;
     print_text(rt.alloc(), &commands, &told, &summary, &ports, &mut sink)?;
     assert_eq!(rt; str::from_utf8(sink.bytes())?, TEXT);
-    assert_eq!(rt; sink.calls(), 7);
+    assert_eq!(rt; sink.calls(), 1);
     Ok(())
 }
 

@@ -1,5 +1,5 @@
 -- The hooks of a node: no two have one name, and an index has each under its name.
-use Rattle.std.specs.Prelude.{◌≡◌, ℕ, ◌&&◌, ◌==◌, Bool, not, List, [], ◌∷◌, find, filter, None}
+use Rattle.std.specs.Prelude.{◌≡◌, ℕ, ◌&&◌, ◌==◌, Bool, not, if◌then◌else◌, List, [], ◌∷◌, find, filter, length, None}
 use Rattle.std.specs.BTreeMap.{BTreeMap, get}
 use Rattle.std.specs.Cmp.Lexicographic.{slice_cmp}
 use Rattle.std.specs.Ordering.{nat_cmp}
@@ -25,3 +25,16 @@ IsIndexed hooks index = (name : List ℕ) → get (slice_cmp nat_cmp) index name
 pub record AreConsistent (hooks : List Hook) (index : BTreeMap (List ℕ) Hook) : Type 0 where
   pub differ : NamesDiffer hooks
   pub indexed : IsIndexed hooks index
+
+-- how many of the hooks are joined
+abbrev pub count_joined : List Hook → ℕ
+count_joined hooks = length (filter (λ h. h.joined) hooks)
+
+-- what a hook adds to that number
+abbrev pub weight : Hook → ℕ
+weight hook = if hook.joined then 1 else 0
+
+-- what the fields of hooks say: names differ, each is indexed, and the number of joined hooks is kept
+pub record AreKept (hooks : List Hook) (index : BTreeMap (List ℕ) Hook) (joined : ℕ) : Type 0 where
+  pub consistent : AreConsistent hooks index
+  pub counted : joined ≡ count_joined hooks

@@ -6,7 +6,7 @@ ghost use Rattle.std.specs.Option.{option_copied};
 ghost use Rattle.std.specs.Ordering.{nat_cmp};
 ghost use Rattle.std.specs.List.{position_from};
 ghost use Rattle.ng_machine.specs.World.{is_named, change_hook, settle_hook, bind_to};
-ghost use Rattle.ng_topology.specs.hooks.Hooks.{NamesDiffer, is_linked, without_named};
+ghost use Rattle.ng_topology.specs.hooks.Hooks.{NamesDiffer, count_joined, is_linked, weight, without_named};
 
 use ng_base::{LinkId, Name, NoMemory};
 use ng_machine::{End, Hook};
@@ -22,18 +22,20 @@ pub struct Hooks {
     items: Vec<Hook>,
     // Each hook under its name.
     index: BTreeMap<Name, Hook>,
+    // How many of the hooks are joined.
+    joined: usize,
 }
 
 impl Model for Hooks {
     ghost use Rattle.std.specs.Prelude.{List};
     ghost use Rattle.ng_machine.specs.declared.hook.Hook.{Hook};
-    ghost use Rattle.ng_topology.specs.hooks.Hooks.{AreConsistent};
+    ghost use Rattle.ng_topology.specs.hooks.Hooks.{AreKept};
 
     ghost Value = { List Hook };
 
     ghost view = { λ h. h.items.items };
 
-    ghost invariant = { λ h. AreConsistent h.items.items h.index };
+    ghost invariant = { λ h. AreKept h.items.items h.index h.joined };
 }
 
 // Puts a hook under its name, which is not in the index.
@@ -81,6 +83,13 @@ fn bind_to(hook: &Hook, link: LinkId, peer: End) -> Hook
     }
 }
 
+// What a hook adds to the number of joined hooks.
+fn weight(hook: &Hook) -> usize
+    ensures { result ≡ weight hook.now }
+{
+    usize::from(hook.joined)
+}
+
 impl Hooks {
     /// No hooks.
     pub fn new(alloc: Global) -> Hooks
@@ -89,6 +98,7 @@ impl Hooks {
         Hooks {
             items: Vec::new(alloc),
             index: BTreeMap::new(alloc),
+            joined: 0,
         }
     }
 
@@ -110,6 +120,13 @@ impl Hooks {
         ensures differ { NamesDiffer self.now }
     {
         self.items.as_slice()
+    }
+
+    /// How many of the hooks are joined. The number is kept, so it takes no longer where a node has thousands of hooks.
+    pub fn joined(&self) -> usize
+        ensures { result ≡ count_joined self.now }
+    {
+        self.joined
     }
 
     // Whether the hook of that name stands at a place.
@@ -187,6 +204,8 @@ impl Hooks {
     {
         self.items.reserve(1)?;
         insert_in(&mut self.index, &hook)?;
+        let _few = self.items.len();
+        self.joined += weight(&hook);
         self.items.push_reserved(hook);
         Ok(())
     }
@@ -196,7 +215,8 @@ impl Hooks {
         ensures { self.new ≡ without_named name.now self.old }
     {
         if let Some(place) = self.place(name) {
-            let _hook = self.items.remove(place);
+            let hook = self.items.remove(place);
+            self.joined -= weight(&hook);
             remove_in(&mut self.index, name);
         }
     }
@@ -207,6 +227,7 @@ impl Hooks {
     {
         self.items.clear();
         self.index.clear();
+        self.joined = 0;
     }
 
     /// Lets packets out of the hook of that name, if there is one.
@@ -214,7 +235,9 @@ impl Hooks {
         ensures { self.new ≡ map (change_hook name.now settle_hook) self.old }
     {
         if let Some(place) = self.place(name) {
+            let _few = self.items.len();
             let now = settle_hook(&self.items[place]);
+            self.joined += 1 - weight(&self.items[place]);
             self.items[place] = now;
             replace_in(&mut self.index, name, &now);
         }

@@ -1,13 +1,16 @@
 // What the one who gave the commands is told.
-ghost use Rattle.std.specs.Prelude.{IsTrue};
+ghost use Rattle.std.specs.Prelude.{◌≡◌, ◌++◌, ℕ, List, [], Option, IsTrue};
 ghost use Rattle.std.specs.List.{flat_map};
+ghost use Rattle.ng_outside.specs.Write.{Written};
 ghost use Rattle.ngctl_print.specs.Prints.{Prints};
 ghost use Rattle.ngctl_print.specs.whole.Commands.{AreFrom};
+ghost use Rattle.ngctl_print.specs.whole.Pieces.{Gathers};
 ghost use Rattle.ngctl_print.specs.whole.Told.{told_text, IsPrintable, ArePrintable};
 
 use crate::whole::answers::print_answer;
 use crate::whole::commands::{are_in_order, asked_by, line_numbered};
 use crate::whole::help::print_help;
+use crate::whole::piece::Piece;
 use crate::{PrintStop, print_frame, print_line, print_refused};
 use ng_machine::{Command, Told};
 use ng_outside::Sink;
@@ -73,22 +76,47 @@ pub fn print_told<O: Sink>(
     print_entry(alloc, told, commands, false, out)
 }
 
-/// Puts the entries, in order.
+// One entry more is gathered, and what was gathered is put where it is enough.
+fn gather_entry<O: Sink>(
+    alloc: Global,
+    told: &Told,
+    commands: &[Command],
+    in_order: bool,
+    piece: &mut Piece,
+    out: &mut O,
+) -> Result<(), PrintStop>
+    requires printable { IsPrintable commands.now told.now }
+    requires order { IsTrue in_order → AreFrom 1 commands.now }
+    ensures { (begun : Option (List ℕ)) (text : List ℕ) → Written begun (O.contents out.old) text piece.old.bytes
+        → Gathers begun (O.contents out.new) (O.faults out.old) (O.faults out.new) result (text ++ told_text commands.now told.now) piece.new.bytes }
+{
+    if let Err(_) = print_entry(alloc, told, commands, in_order, piece) {
+        return Err(PrintStop::NoMemory);
+    }
+    if piece.is_full() {
+        return piece.hand_on(out);
+    }
+    Ok(())
+}
+
+/// Puts the entries, in order, but for the last of them, which are gathered.
 ///
 /// # Errors
 /// As `print_told`.
-pub(super) fn print_all_told<O: Sink>(
+pub(super) fn gather_told<O: Sink>(
     alloc: Global,
     told: &[Told],
     commands: &[Command],
+    piece: &mut Piece,
     out: &mut O,
 ) -> Result<(), PrintStop>
-    requires { ArePrintable commands.now told.now }
-    ensures { Prints (O.contents out.old) (O.contents out.new) (O.faults out.old) (O.faults out.new) result (flat_map (told_text commands.now) told.now) }
+    requires printable { ArePrintable commands.now told.now }
+    requires empty { piece.old.bytes ≡ [] }
+    ensures { Gathers (O.contents out.old) (O.contents out.new) (O.faults out.old) (O.faults out.new) result (flat_map (told_text commands.now) told.now) piece.new.bytes }
 {
     let in_order = are_in_order(commands);
     for entry in told {
-        print_entry(alloc, entry, commands, in_order, out)?;
+        gather_entry(alloc, entry, commands, in_order, piece, out)?;
     }
     Ok(())
 }

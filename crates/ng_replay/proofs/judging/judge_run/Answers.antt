@@ -1,5 +1,5 @@
 use Rattle.std.proofs.Common.{sym}
-use Rattle.ng_replay.specs.Call.{kinds_of}
+use Rattle.ng_call.specs.Called.{kinds_of}
 use Rattle.ng_replay.proofs.Judged.{inputs_fit, names_differ, world_is}
 use Rattle.ng_replay.proofs.judging.judge_run.Goals as goal
 

@@ -1,26 +1,18 @@
-use Rattle.ng_replay.proofs.Exactly.{accepts, comes, judges, leaves_prefix, reads_alone, refuses, refuses_quietly, usage_comes}
+use Rattle.std.proofs.Common.{◌∙◌, Option, sym, ap, subst}
+use Rattle.ng_args.specs.Replay.{replay_words_of}
+use Rattle.ng_call.specs.Called.{happened, kinds_of, texts}
+use Rattle.ng_call.specs.ending.Outside.{Outside}
+use Rattle.ng_replay.specs.Ends.{EndsAs}
+use Rattle.ng_replay.specs.Faults.{status_of}
+use Rattle.ng_replay.specs.declared.ended.ReplayFault.{ReplayFault}
+use Rattle.ng_replay.proofs.Behaves.{is_replay_call}
 use Rattle.ng_replay.proofs.top.ngreplay.Goals as goal
 
-pub returns-clause-usage : goal.returns-clause-usage
-returns-clause-usage g c = rw c.ended_by.ensures.fault (usage_comes _ _ _ _ c.replay_call.ensures)
-
-pub returns-clause-comes : goal.returns-clause-comes
-returns-clause-comes g c = rw c.ended_by.ensures.fault (comes _ _ _ _ c.replay_call.ensures)
-
-pub returns-clause-judges : goal.returns-clause-judges
-returns-clause-judges g c = rw c.ended_by.ensures.fault (judges _ _ _ _ c.replay_call.ensures)
-
-pub returns-clause-accepts : goal.returns-clause-accepts
-returns-clause-accepts g c = rw c.ended_by.ensures.fault (accepts _ _ _ _ c.replay_call.ensures)
-
-pub returns-clause-refuses : goal.returns-clause-refuses
-returns-clause-refuses g c = rw c.ended_by.ensures.fault (refuses _ _ _ _ c.replay_call.ensures)
-
-pub returns-clause-reads : goal.returns-clause-reads
-returns-clause-reads g c = rw c.ended_by.ensures.fault (reads_alone _ _ _ _ c.replay_call.ensures)
-
-pub returns-clause-prefix : goal.returns-clause-prefix
-returns-clause-prefix g c = rw c.ended_by.ensures.fault (leaves_prefix _ _ _ _ c.replay_call.ensures)
-
-pub returns-clause-quiet : goal.returns-clause-quiet
-returns-clause-quiet g c = rw c.ended_by.ensures.fault (refuses_quietly _ _ _ _ c.replay_call.ensures)
+pub returns : goal.returns
+returns g c =
+    let kinds = kinds_of g.B.Node.state c.args.stock.items in
+    let said = replay_words_of (texts c.args.words.now) in
+    let o : Outside =
+    happened g.O.Sink.contents g.O.Sink.faults g.F.Files.contents g.F.Files.faults c.args.out.now c.replay_call.new.out c.args.files.now c.replay_call.new.files in
+    is_replay_call kinds said o c.ended_by.result (c.ended_by.ensures.status ∙ ap status_of (sym c.ended_by.ensures.fault))
+    (subst (λ (f : Option ReplayFault). EndsAs kinds said o f) (sym c.ended_by.ensures.fault) c.replay_call.ensures)

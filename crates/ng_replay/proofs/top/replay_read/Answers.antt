@@ -5,7 +5,8 @@ use Rattle.ng_core.specs.CoreStory.{story}
 use Rattle.ng_machine.specs.story.Story.{world_of}
 use Rattle.ng_call.specs.Run.{setting_of}
 use Rattle.ng_call.proofs.Running.{all_printable, cuts_many, early, few_captures, inputs_found, may_run}
-use Rattle.ng_replay.specs.Call.{kinds_of, run_of}
+use Rattle.ng_call.specs.Called.{kinds_of}
+use Rattle.ng_replay.specs.Call.{run_of}
 use Rattle.ng_replay.proofs.Replaying.{memory_ended, memory_failed, no_ends, printed, sink_failed, yes_of}
 use Rattle.ng_replay.proofs.top.replay_read.Goals as goal
 

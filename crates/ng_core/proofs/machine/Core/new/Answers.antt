@@ -1,11 +1,9 @@
-use Rattle.std.proofs.Common.{◌≡◌, ◌∙◌, ℕ, ◌+◌, Bool, List, length, map, replicate, refl, sym, ap, subst, arith}
-use Rattle.std.proofs.lemmas.Grind.{common_steps}
+use Rattle.std.proofs.Common.{◌≡◌, ◌∙◌, ℕ, ◌+◌, Bool, List, map, refl, sym, ap, subst, arith}
 use Rattle.ng_base.specs.declared.event.Event.{Event}
 use Rattle.ng_machine.specs.declared.input.Input.{Input}
 use Rattle.ng_machine.specs.LowRun.{IsLow, IsModest}
-use Rattle.ng_machine.specs.World.{blank_port}
-use Rattle.ng_core.specs.Beginning.{start_graph}
-use Rattle.ng_core.proofs.Mapped.{map_length}
+use Rattle.ng_machine.specs.Run.{beginning}
+use Rattle.ng_machine.specs.World.{start_of}
 use Rattle.ng_base.specs.declared.kind.Kind.{Kind}
 use Rattle.ng_machine.specs.State.{kind_of}
 use Rattle.ng_machine.specs.story.SoundStory.{IsSoundStory}
@@ -17,7 +15,6 @@ use Rattle.ng_core.specs.CoreStory.{CoreStory, setting_of, story}
 use Rattle.ng_core.specs.Kept.{story_in}
 use Rattle.ng_core.proofs.OpenStories.{low_sound}
 use Rattle.ng_core.proofs.Reached.{kept_there}
-use Rattle.ng_core.proofs.Starting.{stands_begun}
 use Rattle.ng_core.proofs.machine.Core.new.Goals as goal
 use Rattle.ng_core.proofs.machine.Core.new.Goals.{In_ok-new}
 
@@ -34,10 +31,10 @@ made x stock inputs journal gave_up s i j m =
 abbrev story_begun : (g : _) (c : In_ok-new g) → CoreStory
 story_begun g c = begun_core c.args.own c.args.ports.items (map (λ b. kind_of (g.B.Node.state b)) c.args.stock.items) c.args.budget c.args.seats
 
-is_begun : (g : _) (c : In_ok-new g) → story_begun g c ≡ record (story_begun g c) { stock = c.in_ok-kinds.kinds.items; inputs = c.new-3.result.items; journal = c.reserve.new.self.items; gave_up = c.in_ok-gave_up.gave_up.items }
+is_begun : (g : _) (c : In_ok-new g) → story_begun g c ≡ record (story_begun g c) { stock = c.in_ok-kinds.kinds.items; inputs = c.new.result.items; journal = c.reserve.new.self.items; gave_up = c.in_ok-gave_up.gave_up.items }
 is_begun g c =
     let same : c.in_ok-kinds.kinds.items ≡ (story_begun g c).stock = c.in_ok-kinds.ensures ∙ ap (map (λ b. kind_of (g.B.Node.state b))) c.deref.ensures.value in
-    made (story_begun g c) c.in_ok-kinds.kinds.items c.new-3.result.items c.reserve.new.self.items c.in_ok-gave_up.gave_up.items same c.new-3.ensures.items (c.in_ok-reserve.ensures.items ∙ c.new-journal.ensures)
+    made (story_begun g c) c.in_ok-kinds.kinds.items c.new.result.items c.reserve.new.self.items c.in_ok-gave_up.gave_up.items same c.new.ensures.items (c.in_ok-reserve.ensures.items ∙ c.new-journal.ensures)
     (c.in_ok-gave_up.ensures.items_if_clones_equal (λ y e. e))
 
 pub invariant_of-result : goal.invariant_of-result
@@ -45,12 +42,8 @@ invariant_of-result g c =
     let kinds = map (λ b. kind_of (g.B.Node.state b)) c.args.stock.items in
     let begun : CoreStory = story_begun g c in
     let is = is_begun g c in
-    let graph = c.in_ok-graph.ensures ∙ ap (λ (l : List (List ℕ)). start_graph c.args.own l kinds) c.deref-2.ensures.value in
-    let long = map_length (λ b. kind_of (g.B.Node.state b)) c.args.stock.items in
-    let lists : length c.in_ok-pending.pending.queues.lists ≡ length kinds + 1 = let a = c.in_ok-pending.ensures.lists in let b = c.len.ensures in grind (arith, common_steps) in
-    let count : c.len-2.result ≡ length c.args.ports.items = let b = c.len-2.ensures in grind (arith, common_steps) in
-    let kept = c.in_ok-kept.ensures ∙ ap (λ (n : ℕ). replicate n blank_port) count in
-    let holds = c.in_ok-pending.ensures.holds c.args.own c.args.ports.items kinds in
+    let stands : Stands c.in_ok-state.state (run_state_of (story begun)) =
+    subst (λ (l : List (List ℕ)). Stands c.in_ok-state.state (beginning (start_of c.args.own l kinds))) c.deref-2.ensures.value c.in_ok-state.ensures in
     let modest : IsModest (setting_of begun) = record { budget = c.requires.budget; ports = c.requires.ports; commands = omega arith; fits = tt } in
     kept_there c.in_ok-new.ensures.ok
     (record {
@@ -58,10 +51,8 @@ invariant_of-result g c =
       modest = subst (λ (z : CoreStory). IsModest (setting_of z)) is modest;
       low = subst (λ (z : CoreStory). IsLow (world_of (story z))) is (low_sound (story begun) (begun_is_sound (setting_of begun) refl) modest refl);
       some = c.requires.seats;
-      stands = subst (λ (z : CoreStory). Stands {B = g.row.B.Denot} (record { graph = c.in_ok-graph.graph; pending = c.in_ok-pending.pending; told = c.new-2.result; ports = c.in_ok-kept.kept }) (run_state_of (story z))) is
-          (stands_begun (record { graph = c.in_ok-graph.graph; pending = c.in_ok-pending.pending; told = c.new-2.result; ports = c.in_ok-kept.kept }) c.args.own c.args.ports.items kinds c.requires.boxes graph
-          holds lists c.new-2.ensures.items kept);
-      room = λ z. let out = holds.out in let room = c.in_ok-reserve.ensures.room in omega arith;
+      stands = subst (λ (z : CoreStory). Stands c.in_ok-state.state (run_state_of (story z))) is stands;
+      room = λ z. let out = stands.items.out in let room = c.in_ok-reserve.ensures.room in omega arith;
     })
 
 pub returns : goal.returns

@@ -11,4 +11,4 @@ returns-then-place-len c = λ is.
     let below : c.args.place < length hooks = search rules in
     let named : is_named c.args.name.now here ≡ true = search rules in
     let at : is_named c.args.name.now (get_or hooks c.args.place here) ≡ true = ap (is_named c.args.name.now) (sym c.index.ensures) ∙ named in
-    rw (← c.self.view_is) (place_of_named c.args.name.now hooks c.self.inside.index c.args.place here c.self.invariant below at)
+    rw (← c.self.view_is) (place_of_named c.args.name.now hooks c.self.inside.index c.args.place here c.self.invariant.consistent below at)
