@@ -1,18 +1,18 @@
 // Bytes as scripts and captures.
-ghost use Rattle.std.specs.Prelude.{◌≡◌, ◌⊎◌, None, Ok, map, IfOk, IfErr};
+ghost use Rattle.std.specs.Prelude.{◌≡◌, ◌<◌, ◌≤◌, ◌⊎◌, None, Ok, true, length, map, IfOk, IfErr, IfSome};
 ghost use Rattle.ng_machine.specs.Words.{Every};
 ghost use Rattle.ng_pcap.specs.Reading.{capture_of};
 ghost use Rattle.ng_pcap.specs.Writing.{IsWritable};
 ghost use Rattle.ng_pcap.specs.declared.fault.CaptureFault.TheVariants as capture_faults;
 ghost use Rattle.ngctl_script.specs.Script.{script_fault, commands_of, IsFaultOf};
 ghost use Rattle.ng_call.specs.Parts.{stop_of_script, stop_of_capture};
-ghost use Rattle.ng_call.specs.Steps.{fault_in};
+ghost use Rattle.ng_call.specs.Steps.{fault_in, packets_in};
 
 use crate::Fault;
 use crate::found::ReadScript;
 use ng_base::NoMemory;
 use ng_machine::Command;
-use ng_pcap::{Capture, CaptureFault, read_capture};
+use ng_pcap::{Capture, CaptureFault, PACKET_HEAD_LEN, count_packets, read_capture};
 use ngctl_script::{Script, ScriptFault, read_script};
 use std::alloc::Global;
 
@@ -81,4 +81,42 @@ pub(crate) fn parse_capture(alloc: Global, bytes: &[u8]) -> Result<Capture, Capt
     ensures fault { IfErr result (λ why. (why ≡ capture_faults.NoMemory) ⊎ (fault_in (capture_of bytes.now) ≡ Some why)) }
 {
     read_capture(alloc, bytes)
+}
+
+// Whether a capture of these bytes has more than so many packets. They are counted where the bytes are so many that it may.
+fn has_more(bytes: &[u8], most: u64) -> Result<bool, CaptureFault>
+    ensures more { IfOk result (λ more. more ≡ true → most < packets_in bytes.now) }
+    ensures read { IfOk result (λ more. more ≡ true → fault_in (capture_of bytes.now) ≡ None) }
+    ensures fault { IfErr result (λ why. fault_in (capture_of bytes.now) ≡ Some why) }
+{
+    if bytes.len() as u64 / PACKET_HEAD_LEN as u64 <= most {
+        return Ok(false);
+    }
+    Ok(count_packets(bytes)? > most)
+}
+
+/// The capture of these bytes, or `None` where it has more than so many packets. Those are counted and not kept then.
+///
+/// # Errors
+/// The first fault of the bytes, or `NoMemory` where memory ran out.
+pub(crate) fn parse_capture_within(
+    alloc: Global,
+    bytes: &[u8],
+    most: u64,
+) -> Result<Option<Capture>, CaptureFault>
+    ensures read { IfOk result (λ found. IfSome found (λ capture. capture_of bytes.now ≡ Ok capture)) }
+    ensures few { IfOk result (λ found. IfSome found (λ capture. length capture.kept ≤ most)) }
+    ensures writable { IfOk result (λ found. IfSome found (λ capture. Every IsWritable capture.kept)) }
+    ensures fine { IfOk result (λ found. found ≡ None → fault_in (capture_of bytes.now) ≡ None) }
+    ensures many { IfOk result (λ found. found ≡ None → most < packets_in bytes.now) }
+    ensures fault { IfErr result (λ why. (why ≡ capture_faults.NoMemory) ⊎ (fault_in (capture_of bytes.now) ≡ Some why)) }
+{
+    if has_more(bytes, most)? {
+        return Ok(None);
+    }
+    let capture = parse_capture(alloc, bytes)?;
+    if capture.kept.as_slice().len() as u64 > most {
+        return Ok(None);
+    }
+    Ok(Some(capture))
 }

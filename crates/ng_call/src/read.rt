@@ -11,7 +11,7 @@ ghost use Rattle.ng_call.specs.Call.{names};
 ghost use Rattle.ng_call.specs.Parts.{of_files, Stops, ScriptPasses, PortsPass, PortsStop, AllPass, AllStop};
 
 use crate::found::{ReadIn, ReadScript};
-use crate::parse::{parse_capture, parse_script, stop_of_capture, stop_of_script};
+use crate::parse::{parse_capture_within, parse_script, stop_of_capture, stop_of_script};
 use crate::{Fault, Which};
 use ng_args::{FileName, PortWord};
 use ng_base::Sequence;
@@ -82,14 +82,11 @@ fn read_port_file<F: Files>(
         Err(ReadStop::TooBig) => return Err(Fault::TooBig(Which::Capture(port))),
         Err(ReadStop::NoMemory) => return Err(Fault::NoMemory),
     };
-    let capture = match parse_capture(alloc, &held) {
-        Ok(capture) => capture,
-        Err(why) => return Err(stop_of_capture(port, why)),
-    };
-    if capture.kept.as_slice().len() as u64 > MOST_PACKETS - packets {
-        return Err(Fault::TooBig(Which::Capture(port)));
+    match parse_capture_within(alloc, &held, MOST_PACKETS - packets) {
+        Ok(Some(capture)) => Ok((capture, held.len() as u64)),
+        Ok(None) => Err(Fault::TooBig(Which::Capture(port))),
+        Err(why) => Err(stop_of_capture(port, why)),
     }
-    Ok((capture, held.len() as u64))
 }
 
 // The capture of a port that receives nothing.

@@ -8,12 +8,8 @@ mod examples;
 #[cfg(test)]
 mod fitting;
 #[cfg(test)]
-mod gated;
-#[cfg(test)]
 mod inputs;
 #[cfg(test)]
 mod journals;
 #[cfg(test)]
 mod lists;
-#[cfg(test)]
-mod meeting;

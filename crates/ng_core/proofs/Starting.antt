@@ -1,7 +1,7 @@
 -- What is kept at the beginning stands for the beginning.
 use Rattle.std.proofs.Common.{◌≡◌, ◌∙◌, ℕ, zero, suc, ◌+◌, ◌<◌, ◌≤◌, List, [], ◌∷◌, length, map, replicate, Bool, true, false, ◌||◌, is_some, refl, sym, ap, subst, arith, true≢false}
-use Rattle.std.proofs.lemmas.List.{length-replicate}
-use Rattle.std.specs.Prelude.{get_or, if◌then◌else◌}
+use Rattle.std.proofs.lemmas.List.{length-replicate, length-take-le}
+use Rattle.std.specs.Prelude.{get_or, if◌then◌else◌, take}
 use Rattle.std.specs.declared.option.Option.{Option}
 use Rattle.std.specs.declared.option.Option.TheVariants.{None, Some}
 use Rattle.ng_base.specs.declared.kind.Kind.{Kind}
@@ -97,6 +97,20 @@ fewer_all ks kind (suc n) le =
     let one = fewer ks kind (some_there ks kind (omega arith)) in
     let rest = fewer_all (without_kind ks kind) kind n (fewer_of ks kind n (omega arith)) in
     omega arith
+
+-- so one is left for each port
+one_left : (ks : List Kind) (kind : Kind) (n m : ℕ) → n < m → m ≤ count ks kind → 0 < count (without_kinds ks kind n) kind
+one_left ks kind zero m lt le = omega arith
+one_left ks kind (suc n) zero lt le = absurd (omega arith)
+one_left ks kind (suc n) (suc m) lt le = one_left (without_kind ks kind) kind n m (omega arith) (fewer_of ks kind m (omega arith))
+
+pub ether_left : (own : List ℕ) (ports : List (List ℕ)) (stock : List Kind) (i : ℕ) → HasBoxes ports stock → i < length ports
+    → has_kind (start_graph own (take i ports) stock).stock Ether ≡ true
+ether_left own ports stock i boxes lt =
+    let long : length (take i ports) < length ports = let e = length-take-le i ports (omega arith) in omega arith in
+    let left = ethers_left stock in
+    some_there (without_kinds (without_kind stock Socket) Ether (length (take i ports))) Ether
+    (one_left (without_kind stock Socket) Ether (length (take i ports)) (length ports) long (let some = boxes.ethers in omega arith))
 
 blanks : (names : List (List ℕ)) → replicate (length names) blank_port ≡ map (λ (name : List ℕ). blank_port) names
 blanks [] = refl

@@ -1,13 +1,15 @@
 // A core is made.
-ghost use Rattle.std.specs.Prelude.{◌≡◌, ℕ, ◌+◌, ◌<◌, ◌≤◌, All, [], ◌∷◌, true, length, map, replicate, Some, None, IfOk};
+ghost use Rattle.std.specs.Prelude.{◌≡◌, ℕ, ◌+◌, ◌<◌, ◌≤◌, All, [], ◌∷◌, true, length, map, replicate, Some, None, IfOk, OnOk};
 ghost use Rattle.ng_machine.specs.LowRun.{most_budget, most_ports};
 ghost use Rattle.ng_machine.specs.Run.{beginning};
 ghost use Rattle.ng_machine.specs.State.{blank_of, kind_of};
-ghost use Rattle.ng_core.specs.Calls.{HasBoxes, most_boxes};
+ghost use Rattle.ng_machine.specs.Stock.{has_kind};
+ghost use Rattle.ng_core.specs.Calls.{HasBoxes};
 ghost use Rattle.ng_base.specs.Names.{are_different};
 ghost use Rattle.ng_core.specs.Beginning.{begun_core, start_graph};
 ghost use Rattle.ng_core_state.specs.Stands.{Stands, port_of};
-ghost use Rattle.ng_machine.specs.World.{blank_port, start_of};
+ghost use Rattle.ng_machine.specs.World.{blank_node, blank_port, start_of};
+ghost use Rattle.ng_topology.specs.Topology.{is_free, make_node};
 
 use crate::Core;
 use crate::machine::Parts;
@@ -16,7 +18,7 @@ use ng_core_state::{Port, State};
 use ng_journal::kept::Journal;
 use ng_plan::node::Node;
 use ng_queue::pending::Pending;
-use ng_topology::Graph;
+use ng_topology::{Graph, MakeFault};
 use std::alloc::Global;
 
 // The kinds of the boxes, in order.
@@ -30,6 +32,24 @@ fn kinds_of<B: Node>(alloc: Global, stock: &[B]) -> Result<Vec<Kind>, NoMemory>
     Ok(kinds)
 }
 
+// Makes a node with this name out of a blank one that is there.
+fn make_named<B: Node>(
+    alloc: Global,
+    graph: &mut Graph<B>,
+    kind: Kind,
+    name: Name,
+) -> Result<(), NoMemory>
+    requires free { is_free graph.old (Some name) ≡ true }
+    requires there { has_kind graph.old.stock kind ≡ true }
+    ensures { OnOk result (graph.new ≡ make_node graph.old kind (blank_node (Some name) kind)) }
+{
+    match graph.make(alloc, kind, Some(name)) {
+        Ok(_) => Ok(()),
+        Err(MakeFault::NoMemory) => Err(NoMemory),
+        Err(MakeFault::Used) => unreachable!(),
+    }
+}
+
 // A graph with the own node, and an ether for each port.
 fn begin_graph<B: Node>(
     alloc: Global,
@@ -38,18 +58,14 @@ fn begin_graph<B: Node>(
     stock: Vec<B>,
 ) -> Result<Graph<B>, NoMemory>
     requires blank { All (λ b. B.state b ≡ blank_of (kind_of (B.state b))) stock.items }
-    requires few { length stock.items ≤ most_boxes }
+    requires boxes { HasBoxes ports.now (map (λ b. kind_of (B.state b)) stock.items) }
     requires names { are_different (own ∷ ports.now) ≡ true }
     ensures { IfOk result (λ graph. graph ≡ start_graph own ports.now (map (λ b. kind_of (B.state b)) stock.items)) }
 {
     let mut graph = Graph::new(alloc, stock)?;
-    let Ok(_) = graph.make(alloc, Kind::Socket, Some(own)) else {
-        return Err(NoMemory);
-    };
+    make_named(alloc, &mut graph, Kind::Socket, own)?;
     for port in ports {
-        let Ok(_) = graph.make(alloc, Kind::Ether, Some(*port)) else {
-            return Err(NoMemory);
-        };
+        make_named(alloc, &mut graph, Kind::Ether, *port)?;
     }
     Ok(graph)
 }

@@ -7,3 +7,13 @@ pub mod Ending
 pub mod Sorts
 pub mod Counting
 pub mod Behaves
+pub mod SameLength
+pub mod MoreBudget
+pub mod FedInputs
+pub mod FirstInputs
+pub mod NothingMore
+pub mod PlacesCounted
+pub mod PacketsAlone
+pub mod LossesStay
+pub mod InThree
+pub mod ComesTrue

@@ -10,3 +10,4 @@ pub mod Ends
 pub mod Parts
 pub mod Line
 pub mod Behaves
+pub mod ComesTrue

@@ -4,6 +4,7 @@
 
 mod bag;
 mod ended;
+mod laws;
 mod line;
 mod read;
 pub mod spread;
@@ -12,5 +13,6 @@ mod text;
 mod top;
 
 pub use ended::{Forecast, ForecastFault, Source, Spread};
+pub use laws::forecasts_come_true;
 pub use line::forecast_fault_line;
 pub use top::ngforecast;

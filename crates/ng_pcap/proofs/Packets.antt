@@ -1,14 +1,14 @@
 -- Reading packets one after the other, as a loop does.
 use Rattle.std.proofs.Common.{◌≡◌, ℕ, zero, suc, ◌-◌, ◌+◌, ◌≤◌, ◌<◌, false, eqb, List, [], ◌∷◌, ◌++◌, length, take, drop, Option, Some, None, Result, Ok, Err, refl, sym, ap, ◌∙◌, append_assoc, arith}
 use Rattle.std.proofs.lemmas.Bool.{ne_eqb}
-use Rattle.std.proofs.lemmas.List.{append-nil, length-drop}
+use Rattle.std.proofs.lemmas.List.{append-nil, length-append, length-drop}
 use Rattle.ng_base.specs.declared.ids.Stamp.{Stamp}
 use Rattle.ng_pcap.specs.declared.capture.Capture.{Capture}
 use Rattle.ng_pcap.specs.declared.fault.CaptureFault.{CaptureFault}
 use Rattle.ng_pcap.specs.declared.fault.CaptureFault.TheVariants.{ShortHeader, NoMagic, BadVersion, BadLink, TooLong, NoMemory}
 use Rattle.ng_pcap.specs.declared.format.Format.{Format}
 use Rattle.ng_pcap.specs.declared.reader.PacketHead.{PacketHead}
-use Rattle.ng_pcap.specs.Reading.{◌>>=◌, IsUnlessNoMemory, no_more_packets, with_packet, packet_head, packets}
+use Rattle.ng_pcap.specs.Reading.{◌>>=◌, IsUnlessNoMemory, count_in, no_more_packets, with_packet, packet_head, packets}
 
 -- what was kept before, and what is still read
 abbrev pub with_prefix : List (Stamp × List ℕ) → Result Capture CaptureFault → Result Capture CaptureFault
@@ -154,3 +154,50 @@ IsUnlessNoMemory-same read (Err NoMagic) same = same
 IsUnlessNoMemory-same read (Err BadVersion) same = same
 IsUnlessNoMemory-same read (Err (BadLink n)) same = same
 IsUnlessNoMemory-same read (Err (TooLong place n)) same = same
+
+-- Counting packets, as a loop does: so many were passed over, which are what was kept so far if they are kept
+pub record IsCountSoFar (format : Format) (bytes : List ℕ) (count : ℕ) (left : List ℕ) : Type 0 where
+  pub passed : List (Stamp × List ℕ)
+  pub many : length passed ≡ count
+  pub room : count + length left ≤ length bytes
+  pub so_far : IsSoFar format bytes passed left
+
+pub count_begins : (format : Format) (bytes left : List ℕ) → 24 ≤ length bytes → left ≡ drop 24 bytes → IsCountSoFar format bytes 0 left
+count_begins format bytes left whole is_left = record {
+  passed = [];
+  many = refl;
+  room = omega (arith, ap length is_left, length-drop 24 bytes);
+  so_far = begins format bytes left whole is_left;
+}
+
+pub count_goes_on : (format : Format) (bytes left behind : List ℕ) (count : ℕ) (head : PacketHead)
+    → 0 < length left → packet_head format (length bytes - length left) left ≡ Ok (Some head) → 16 + head.len ≤ length left
+    → behind ≡ drop head.len (drop 16 left)
+    → IsCountSoFar format bytes count left → IsCountSoFar format bytes (count + 1) behind
+count_goes_on format bytes left behind count head some found whole is_behind counted =
+    let so_far = counted.so_far in
+    let at = behind_place bytes left behind head.len so_far.place whole is_behind in
+    let packet : Stamp × List ℕ = (head.stamp, take head.len (drop 16 left)) in
+    record {
+      passed = counted.passed ++ packet ∷ [];
+      many = length-append counted.passed (packet ∷ []) ∙ ap (λ n. n + 1) counted.many;
+      room = omega (arith, at.0, counted.room);
+      so_far = goes_on format bytes left (take head.len (drop 16 left)) behind counted.passed head some found whole refl is_behind so_far;
+    }
+
+pub counted_whole : (format : Format) (bytes left : List ℕ) (count : ℕ) → length left ≡ 0 → IsCountSoFar format bytes count left
+    → count_in (packets (length bytes) format 24 (drop 24 bytes)) ≡ Ok count
+counted_whole format bytes left count none counted =
+    ap count_in (is_whole format bytes left counted.passed none counted.so_far) ∙ ap (λ n. Ok n) counted.many
+
+pub counted_cut : (format : Format) (bytes left : List ℕ) (count : ℕ) → 0 < length left
+    → packet_head format (length bytes - length left) left ≡ Ok None → IsCountSoFar format bytes count left
+    → count_in (packets (length bytes) format 24 (drop 24 bytes)) ≡ Ok count
+counted_cut format bytes left count some cut counted =
+    ap count_in (is_cut format bytes left counted.passed some cut counted.so_far) ∙ ap (λ n. Ok n) counted.many
+
+pub counted_fault : (format : Format) (bytes left : List ℕ) (count : ℕ) (fault : CaptureFault)
+    → 0 < length left → packet_head format (length bytes - length left) left ≡ Err fault → IsCountSoFar format bytes count left
+    → count_in (packets (length bytes) format 24 (drop 24 bytes)) ≡ Err fault
+counted_fault format bytes left count fault some found counted =
+    ap count_in (is_fault format bytes left counted.passed fault some found counted.so_far)

@@ -8,7 +8,7 @@ use Rattle.ng_pcap.specs.declared.fault.CaptureFault.TheVariants.{ShortHeader, N
 use Rattle.ng_pcap.specs.declared.format.Format.{Format}
 use Rattle.ng_pcap.specs.declared.reader.PacketHead.{PacketHead}
 use Rattle.ng_pcap.specs.Format.{format_of}
-use Rattle.ng_pcap.specs.Reading.{◌>>=◌, IsAnswer, IsUnlessNoMemory, capture_of, no_more_packets, head_of, packet_head, packets, rest_of_head, with_packet}
+use Rattle.ng_pcap.specs.Reading.{◌>>=◌, IsAnswer, IsUnlessNoMemory, capture_of, count_of, count_in, no_more_packets, head_of, packet_head, packets, rest_of_head, with_packet}
 
 -- a file's head is read without memory
 tests_take_none : (a b : Bool) (link : ℕ) (format : Format) (first : CaptureFault) → first ≡ BadVersion
@@ -106,3 +106,10 @@ IsAnswer-packets bytes format (Err NoMagic) h read = capture_of-packets bytes fo
 IsAnswer-packets bytes format (Err BadVersion) h read = capture_of-packets bytes format (Err BadVersion) h read
 IsAnswer-packets bytes format (Err (BadLink n)) h read = capture_of-packets bytes format (Err (BadLink n)) h read
 IsAnswer-packets bytes format (Err (TooLong place n)) h read = capture_of-packets bytes format (Err (TooLong place n)) h read
+
+pub counted_fault : (bytes : List ℕ) (fault : CaptureFault) → head_of bytes ≡ Err fault → count_of bytes ≡ Err fault
+counted_fault bytes fault h = rw (capture_of-fault bytes fault h) refl
+
+pub counted_packets : (bytes : List ℕ) (format : Format) → head_of bytes ≡ Ok format
+    → count_of bytes ≡ count_in (packets (length bytes) format 24 (drop 24 bytes))
+counted_packets bytes format h = rw (capture_of-packets bytes format (packets (length bytes) format 24 (drop 24 bytes)) h refl) refl

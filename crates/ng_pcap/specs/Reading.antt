@@ -63,6 +63,13 @@ packets (suc turns) format place left =
 unfoldable pub capture_of : List ℕ → Result Capture CaptureFault
 capture_of bytes = head_of bytes >>= λ format. packets (length bytes) format 24 (drop 24 bytes)
 
+-- how many packets there are in what is read, or its fault
+abbrev pub count_in : Result Capture CaptureFault → Result ℕ CaptureFault
+count_in read = read >>= λ capture. Ok (length capture.kept)
+
+abbrev pub count_of : List ℕ → Result ℕ CaptureFault
+count_of bytes = count_in (capture_of bytes)
+
 -- what bytes are read as, or that there is no memory
 abbrev pub IsUnlessNoMemory : Result Capture CaptureFault → Result Capture CaptureFault → Type 0
 IsUnlessNoMemory read (Err NoMemory) = ⊤

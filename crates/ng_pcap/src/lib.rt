@@ -17,5 +17,5 @@ pub use laws::{
     long_packet_is_refused, no_file_is_out_of_memory, whole_packets_are_read,
     written_packets_are_read_back,
 };
-pub use reader::read_capture;
+pub use reader::{count_packets, read_capture};
 pub use writer::{write_head, write_packet};

@@ -1,6 +1,6 @@
 // Captures from bytes.
 ghost use Rattle.std.specs.Prelude.{◌≡◌, ◌≤◌, ◌+◌, length, drop, IfOk, IfSome, OnOk};
-ghost use Rattle.ng_pcap.specs.Reading.{IsAnswer, IsUnlessNoMemory, head_of, packet_head, packets};
+ghost use Rattle.ng_pcap.specs.Reading.{IsAnswer, IsUnlessNoMemory, count_of, count_in, head_of, packet_head, packets};
 
 use crate::format::{Format, MAJOR, MINOR};
 use crate::{Capture, CaptureFault, ETHERNET, HEAD_LEN, PACKET_HEAD_LEN};
@@ -33,6 +33,18 @@ pub fn read_capture(alloc: Global, bytes: &[u8]) -> Result<Capture, CaptureFault
 {
     let format = read_head(bytes)?;
     read_packets(alloc, format, bytes)
+}
+
+/// How many packets the capture has that a file's bytes are. The packets are passed over and not kept, so it takes no memory:
+/// a caller who takes only so many can ask first.
+///
+/// # Errors
+/// Those of `read_capture`, but for `NoMemory`.
+pub fn count_packets(bytes: &[u8]) -> Result<u64, CaptureFault>
+    ensures { result ≡ count_of bytes.now }
+{
+    let format = read_head(bytes)?;
+    count_behind_head(format, bytes)
 }
 
 /// How the file is written that begins with this head.
@@ -75,6 +87,26 @@ fn read_packets(alloc: Global, format: Format, bytes: &[u8]) -> Result<Capture, 
         left = behind;
     }
     Ok(Capture { kept, cut: None })
+}
+
+/// How many packets stand after the file's head.
+fn count_behind_head(format: Format, bytes: &[u8]) -> Result<u64, CaptureFault>
+    requires { HEAD_LEN ≤ length bytes.now }
+    ensures { result ≡ count_in (packets (length bytes.now) format 24 (drop 24 bytes.now)) }
+{
+    let mut count = 0;
+    let (_, mut left) = bytes.split_at(HEAD_LEN);
+    while !left.is_empty() {
+        let place = (bytes.len() - left.len()) as u64;
+        let Some(head) = read_packet_head(format, place, left)? else {
+            return Ok(count);
+        };
+        let (_, text) = left.split_at(PACKET_HEAD_LEN);
+        let (_, behind) = text.split_at(head.len);
+        count += 1;
+        left = behind;
+    }
+    Ok(count)
 }
 
 /// The head of the packet at the start of what is left of a file from `place` on. `None` where the

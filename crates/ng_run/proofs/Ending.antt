@@ -5,7 +5,7 @@ use Rattle.ng_base.specs.declared.event.Event.{Event}
 use Rattle.ng_base.specs.declared.kind.Kind.{Kind}
 use Rattle.ng_machine.specs.declared.command.Command.{Command}
 use Rattle.ng_machine.specs.declared.input.Input.{Input}
-use Rattle.ng_machine.specs.Laws.{world_after}
+use Rattle.ng_machine.specs.Laws.{IsJournal, world_after}
 use Rattle.ng_machine.specs.World.{World}
 use Rattle.ng_pcap.specs.declared.capture.Capture.{Capture}
 use Rattle.ngctl_script.specs.Script.{commands_of}
@@ -43,6 +43,21 @@ module _ (kinds : List Kind) (w : Words) (o : Outside) (found : Found) (is : IsF
   })
 
   module _ (fine : first_fault o.old.files (steps_in w.source found) ≡ None) (inputs : List Input) (inputs_are : inputs ≡ inputs_in found) where
+    -- memory ran out in the run
+    pub memory_cuts : Same o.old o.now → (events journal : List Event) → IsJournal (setting_of kinds w inputs) events → (status : ℕ) (fault : Option Fault) → status ≡ 71 → journal ≡ events
+        → fault ≡ Some NoMemory → EndsWith (run_task kinds) w o status journal fault
+    memory_cuts same events journal orderly status fault a b c = rw (a, b, c) (record {
+      input = found;
+      is_found = is;
+      ends = inr (inl (record {
+        passed = fine;
+        part = subst (λ (l : List Input). IsJournal (setting_of kinds w l) events) inputs_are orderly;
+        same = same;
+        cause = refl;
+      }));
+      status_is = refl;
+    })
+
     module _ (events journal : List Event) (world : World) (ran : IsRun (setting_of kinds w inputs) w.workers events)
         (world_is : world ≡ world_after (setting_of kinds w inputs) events) (e : journal ≡ events)
         (commands : List Command) (commands_are : commands ≡ map (λ timed. timed.1) (commands_of found.script))

@@ -1,6 +1,7 @@
 -- What came of a core that was just made by the words is the run that they ask for.
 use Rattle.std.proofs.Common.{◌≡◌, ◌∙◌, ℕ, ◌+◌, List, length, false, sym, ap, subst}
 use Rattle.std.proofs.lemmas.List.{length-map}
+use Rattle.ng_base.specs.declared.event.Event.{Event}
 use Rattle.ng_base.specs.declared.kind.Kind.{Kind}
 use Rattle.ng_machine.specs.declared.input.Input.{Input}
 use Rattle.ng_machine.specs.Laws.{IsJournal, run_state_after, start, world_after}
@@ -31,6 +32,12 @@ module _ (kinds : List Kind) (words : Words) (seats : ℕ) (inputs : List Input)
   is_run W plain =
       subst (λ (n : ℕ). IsRun (with_more (setting_of (begun_by kinds words n)) inputs) words.workers new.journal) s
       (record { orderly = W.0; whole = W.1; plain = plain })
+
+  -- where memory ran out, it is orderly as far as it goes
+  pub is_part : (journal : List Event) → journal ≡ new.journal → IsJournal (with_more (setting_of (begun_by kinds words seats)) inputs) new.journal → IsJournal (run.setting_of kinds words inputs) journal
+  is_part journal is orderly =
+      subst (IsJournal (run.setting_of kinds words inputs)) (sym is)
+      (subst (λ (n : ℕ). IsJournal (with_more (setting_of (begun_by kinds words n)) inputs) new.journal) s orderly)
 
   pub is_world : IsWholeRun kinds words seats inputs new → world_of (story new) ≡ world_after (run.setting_of kinds words inputs) new.journal
   is_world W =

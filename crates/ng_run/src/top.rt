@@ -46,17 +46,26 @@ fn fault_status(fault: Fault) -> u8
     }
 }
 
+// The end of a call by a fault, and the journal that there is.
+fn ended_by(fault: Fault, journal: Journal) -> Ended
+    ensures status { result.status ≡ fault_status fault }
+    ensures journal { result.journal.items ≡ journal.items }
+    ensures fault { result.fault ≡ Some fault }
+{
+    Ended {
+        status: fault_status(fault),
+        journal,
+        fault: Some(fault),
+    }
+}
+
 // The end of a call that is refused before it runs.
 fn refused(alloc: Global, fault: Fault) -> Ended
     ensures status { result.status ≡ fault_status fault }
     ensures journal { result.journal.items ≡ [] }
     ensures fault { result.fault ≡ Some fault }
 {
-    Ended {
-        status: fault_status(fault),
-        journal: Journal::new(alloc),
-        fault: Some(fault),
-    }
+    ended_by(fault, Journal::new(alloc))
 }
 
 // What is known of the inputs of a script.
@@ -95,7 +104,8 @@ fn run_status<B: Node>(core: &Core<B>) -> u8
     }
 }
 
-// Runs what was read, and writes what comes of it.
+// Runs what was read, and writes what comes of it. Where memory runs out within the run, nothing is written, and the
+// journal of what was done until then comes back.
 fn run_read<R: Threads + Wait + Sync, B: Node, F: Files, O: Sink, G: Gate + Sync>(
     rt: &R,
     alloc: Global,
@@ -126,8 +136,9 @@ fn run_read<R: Threads + Wait + Sync, B: Node, F: Files, O: Sink, G: Gate + Sync
         return refused(alloc, Fault::NoMemory);
     };
     let of = inputs.len() as u64;
-    let Ok(core) = run_core(rt, alloc, words, stock, inputs, gate) else {
-        return refused(alloc, Fault::NoMemory);
+    let core = match run_core(rt, alloc, words, stock, inputs, gate) {
+        Ok(core) => core,
+        Err(journal) => return ended_by(Fault::NoMemory, journal),
     };
     know_run();
     let status = run_status(&core);
@@ -224,9 +235,10 @@ fn run_call<R: Threads + Wait + Sync, B: Node, F: Files, O: Sink, G: Gate + Sync
 /// The words are `[-w WORKERS] [-b BUDGET] [-n NAME] [-j JOURNAL] SCRIPT [PORT=IN,OUT ..]`, or `-g N` in place of
 /// SCRIPT and the ports. Refusals come in this order: the words (64); the script, not read (66), too big or not in form
 /// (65); each capture, not read (66), too many bytes, not in form, too many packets (65). Then come the run and the
-/// writes (74). 71 may stand in place of any. `stock` are the blank nodes: a socket and 64 ethers among them. `rt`
-/// starts a thread for each worker, and each item that a worker takes passes `gate` before the work on it. Waits for
-/// the threads.
+/// writes (74). 71 may stand in place of any: where memory runs out within the run nothing is written, and the journal
+/// of what was done until then comes back. `stock` are the blank nodes: a socket and 64 ethers among them. `rt` starts
+/// a thread for each worker, and each item that a worker takes passes `gate` before the work on it. Waits for the
+/// threads.
 ///
 /// Its clause is one record, `IsRunCall`: what holds of each call of a task (`Behaves`), that without workers the
 /// journal is the plain one, and that it keeps the laws however the call ends.

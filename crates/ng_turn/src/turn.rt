@@ -139,7 +139,7 @@ fn wait_and_pop<T: Desked + Drop, R: Wait>(rt: &R, place: &Place<T>, ticket: &mu
         if let Some(value) = place.try_pop_as::<Takes>(ticket) {
             return value;
         }
-        backoff.pause();
+        backoff.pause(rt);
     }
     unreachable!()
 }

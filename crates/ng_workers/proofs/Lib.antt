@@ -5,3 +5,4 @@ pub mod Rows
 pub mod OwnEvents
 pub mod EndedRuns
 pub mod WholeRuns
+pub mod PartJournals

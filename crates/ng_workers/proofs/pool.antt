@@ -8,6 +8,7 @@ pub mod Stretches
 pub mod PlainRuns
 pub mod Steps
 pub mod Endings
+pub mod PartRuns
 pub mod Holding
 pub mod Playing
 pub mod Emptying

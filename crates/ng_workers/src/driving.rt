@@ -77,7 +77,7 @@ fn step<R: Wait, B: Node, G: Gate>(
             attend(rt, alloc, turn, pass, gate, taken)
         }
         Next::Nothing => {
-            idle.pause();
+            idle.pause(rt);
             Step::Goes(pass, None)
         }
         Next::End => Step::Ends(pass),

@@ -15,6 +15,6 @@ mod step;
 mod working;
 
 pub use driving::drive;
-pub use laws::ran_is_whole;
+pub use laws::{ran_is_orderly, ran_is_whole};
 pub use running::run_workers;
 pub use working::worker;

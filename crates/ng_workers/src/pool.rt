@@ -10,7 +10,7 @@ mod unfed;
 mod working;
 
 pub use choosing::chosen;
-pub use laws::{jobs_are_workable, plainly_is_plain, plainly_is_whole};
+pub use laws::{jobs_are_workable, partly_is_orderly, plainly_is_plain, plainly_is_whole};
 pub use moves::{Chosen, Move};
 pub use plainly::plain;
 pub use unfed::Unfed;

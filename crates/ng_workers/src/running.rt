@@ -1,17 +1,16 @@
 // A run by a driver and workers, each in a thread.
-ghost use Rattle.std.specs.Prelude.{◌≡◌, ◌<◌, [], false, vec_len, IfOk};
+ghost use Rattle.std.specs.Prelude.{◌≡◌, ◌<◌, [], false, vec_len, IfOk, IfErr};
 ghost use Rattle.std.specs.Thread.{IsSend, IsSync};
 ghost use Rattle.std.specs.Vec.{vec_capacity};
 ghost use Rattle.ng_core.specs.CoreStory.{CoreStory, story};
 ghost use Rattle.ng_machine.specs.story.Story.{AreFitFor, has_ended, run_state_of};
 ghost use Rattle.ng_turn.specs.Words.{seat_of};
 ghost use Rattle.ng_workers.specs.Desks.{IsOver, IsReady};
-ghost use Rattle.ng_workers.specs.Ending.{RanToEnd};
+ghost use Rattle.ng_workers.specs.Ending.{RanPartly, RanToEnd};
 ghost use Rattle.ng_workers.specs.Passes.{AreBackFrom, AreDesksOf, AreReady, Grows, IsOf, desk};
 
 use crate::driving::drive;
 use crate::working::worker;
-use ng_base::NoMemory;
 use ng_core::Core;
 use ng_machine::Input;
 use ng_outside::Gate;
@@ -95,7 +94,7 @@ fn spread<R: Threads + Wait + Sync, B: Node + Send, G: Gate + Sync>(
 /// threads.
 ///
 /// # Errors
-/// `NoMemory` where memory ran out, of a seat or for the turn, and for nothing else. The core is dropped.
+/// The core where memory ran out, of a seat or for the turn, and for nothing else. What was fed and done before stands.
 pub fn run_workers<R: Threads + Wait + Sync, B: Node, G: Gate + Sync>(
     rt: &R,
     alloc: Global,
@@ -103,21 +102,24 @@ pub fn run_workers<R: Threads + Wait + Sync, B: Node, G: Gate + Sync>(
     seats: u32,
     inputs: Vec<Input>,
     gate: &G,
-) -> Result<Core<B>, NoMemory>
+) -> Result<Core<B>, Core<B>>
     requires seats { seats ≡ core.seats }
     requires running { has_ended (story core) ≡ false }
     requires idle { (run_state_of (story core)).taken ≡ [] }
     requires fits { AreFitFor (story core) inputs.items }
     ensures ran { IfOk result (λ end. RanToEnd (story core) inputs.items (story end)) }
+    ensures partly { IfErr result (λ end. RanPartly (story core) inputs.items (story end)) }
 {
     core.journal();
-    let Ok((turn, passes)) = Turn::new(rt, alloc, core, seats) else {
-        return Err(NoMemory);
-    };
-    let passes = spread(rt, alloc, &turn, passes, inputs, gate);
-    let core = turn.end(rt, passes);
-    if core.failed() {
-        return Err(NoMemory);
+    match Turn::new(rt, alloc, core, seats) {
+        Ok((turn, passes)) => {
+            let passes = spread(rt, alloc, &turn, passes, inputs, gate);
+            let core = turn.end(rt, passes);
+            if core.failed() {
+                return Err(core);
+            }
+            Ok(core)
+        }
+        Err(core) => Err(core),
     }
-    Ok(core)
 }

@@ -13,6 +13,9 @@ const DIGITS: [u8; 16] = *b"0123456789abcdef";
 // How many bytes a row shows.
 const ROW: usize = 16;
 
+// How long its line is at most: five digits, a colon, three for each byte, and its end.
+const LINE: usize = 55;
+
 fn hex_digit(n: usize) -> u8
     requires { n < 16 }
     ensures { result ≡ hex_digit n }
@@ -45,7 +48,8 @@ fn dump_row(alloc: Global, at: usize, bytes: &[u8]) -> Result<Vec<u8>, AllocErro
     requires { at < 2 ^ 20 }
     ensures { IfOk result (λ line. line.items ≡ dump_row at bytes.now) }
 {
-    let mut line = Vec::from_slice(alloc, &offset_digits(at))?;
+    let mut line = Vec::with_capacity(alloc, LINE)?;
+    line.extend_from_slice(&offset_digits(at))?;
     line.push(b':')?;
     for byte in bytes {
         push_byte(&mut line, *byte)?;

@@ -3,7 +3,7 @@ ghost use Rattle.std.specs.Prelude.{◌≡◌, ◌<◌, ◌≤◌, ◌∷◌, �
 ghost use Rattle.std.specs.List.{list_all};
 ghost use Rattle.ng_base.specs.declared.kind.Kind.TheVariants as kind;
 ghost use Rattle.ng_call_tests.specs.chosen.Fit.{fits_input};
-ghost use Rattle.ng_call_tests.specs.chosen.Stock.{stocked, stocked_with_dealers};
+ghost use Rattle.ng_call_tests.specs.chosen.Stock.{stocked};
 ghost use Rattle.ng_machine.specs.State.{blank_of, kind_of};
 ghost use Rattle.ng_base.specs.Names.{are_different};
 
@@ -13,18 +13,14 @@ use ng_base::{Name, NoMemory};
 use ng_core::Core;
 use ng_journal::kept::Journal;
 use ng_machine::{Input, Totals};
-use ng_outside::Gate;
 use ng_plain_types::edge::{blank_ether, blank_socket};
 use ng_plain_types::simple::{blank_echo, blank_hole, blank_hub};
 use ng_plan::node::Node;
 use ng_replay::judge::{Verdict, judge};
 use ng_switch_types::bridge::blank_bridge;
 use ng_workers::pool::{Move, chosen, plain};
-use ng_workers::run_workers;
 use std::alloc::Global;
-use std::sync::Wait;
 use std::test::Fail;
-use std::thread::Threads;
 
 /// What a run came to: the places of moves that were skipped, the counts, its journal, and whether each item is accounted for.
 #[derive(Drop)]
@@ -72,8 +68,8 @@ fn echo(alloc: Global) -> Result<Box<dyn Node + Send>, Fail>
     Ok(Box::new(alloc, blank_echo(alloc)?)?)
 }
 
-/// One box more, which is blank.
-pub(super) fn put<B: Node>(stock: &mut Vec<B>, node: B) -> Result<(), Fail>
+// One box more, which is blank.
+fn put<B: Node>(stock: &mut Vec<B>, node: B) -> Result<(), Fail>
     requires all { All (λ b. B.state b ≡ blank_of (kind_of (B.state b))) stock.old.items }
     requires blank { B.state node ≡ blank_of (kind_of (B.state node)) }
     ensures all { OnOk result (All (λ b. B.state b ≡ blank_of (kind_of (B.state b))) stock.new.items) }
@@ -170,26 +166,6 @@ pub(super) fn play<B: Node>(
         accounted,
         journal: core.into_journal(),
     })
-}
-
-/// Runs the inputs by a new core without ports and two workers, where each item passes the gate.
-pub(super) fn run_by_two<R: Threads + Wait + Sync, B: Node, G: Gate + Sync>(
-    rt: &R,
-    alloc: Global,
-    stock: Vec<B>,
-    inputs: Vec<Input>,
-    gate: &G,
-) -> Result<Totals, Fail>
-    requires blank { All (λ b. B.state b ≡ blank_of (kind_of (B.state b))) stock.items }
-    requires kinds { map (λ b. kind_of (B.state b)) stock.items ≡ stocked_with_dealers }
-{
-    let own = Name::read(b"ngctl")?;
-    if !may_run(&inputs, 0, &[]) {
-        return Err(NoMemory)?;
-    }
-    let begun = Core::new(alloc, own, Vec::new(alloc), stock, 1000, 3)?;
-    let core = run_workers(rt, alloc, begun, 3, inputs, gate)?;
-    Ok(core.totals())
 }
 
 /// What is said of a journal, by a new core of so many seats that applies at most `budget` items, and these inputs.

@@ -1,12 +1,16 @@
-// What two workers do at gates that hold an item while another seat works.
+// What two workers do at gates that hold an item while another seat works, and at nodes that wait for each other.
+ghost use Rattle.ng_core.specs.Stocked.{IsStocked};
+
 use crate::fakes::{ROOM, file, files_of, sink, words_in};
+use crate::runs::waiting::{Writes, waiting_nodes};
 use ng_base::{ItemId, NodeId};
-use ng_outside::Gate;
+use ng_outside::{Gate, MemSink, OpenGate};
+use ng_plan::node::Node;
 use ng_run::ngrun;
 use ng_stock::{stock, stock_suffices};
 use std::alloc::Global;
-use std::sync::Wait;
 use std::sync::atomic::{AtomicBool, Ordering};
+use std::sync::{Arc, Wait};
 use std::test::Fail;
 use std::thread;
 use std::thread::Threads;
@@ -64,20 +68,34 @@ impl Gate for Watch {
     }
 }
 
-// The status of a run of a script by two workers at this gate.
+// A run of a script by two workers with these blank nodes at this gate: its status and its text.
+fn run_with<R: Threads + Wait + Sync, B: Node, G: Gate + Sync>(
+    rt: &R,
+    alloc: Global,
+    script: &[u8],
+    boxes: Vec<B>,
+    gate: &G,
+) -> Result<(u8, MemSink), Fail>
+    requires { IsStocked B.state boxes.items }
+{
+    let words = words_in(alloc, "-w 2 s")?;
+    let mut files = files_of(alloc, &[file("s", script)], ROOM, false, 0)?;
+    let mut out = sink(alloc, false, 0)?;
+    let ended = ngrun(rt, alloc, &words, &mut files, &mut out, boxes, gate);
+    Ok((ended.status, out))
+}
+
+// The status of such a run with the blank nodes that the program has.
 fn run_at<R: Threads + Wait + Sync, G: Gate + Sync>(
     rt: &R,
     alloc: Global,
     script: &[u8],
     gate: &G,
 ) -> Result<u8, Fail> {
-    let words = words_in(alloc, "-w 2 s")?;
-    let mut files = files_of(alloc, &[file("s", script)], ROOM, false, 0)?;
-    let mut out = sink(alloc, false, 0)?;
     let boxes = stock(alloc)?;
     stock_suffices();
-    let ended = ngrun(rt, alloc, &words, &mut files, &mut out, boxes, gate);
-    Ok(ended.status)
+    let (status, _) = run_with(rt, alloc, script, boxes, gate)?;
+    Ok(status)
 }
 
 // The last item is worked on while the one before it is held: at another node, and at the same hub by another hook.
@@ -114,5 +132,30 @@ fn a_writer_is_alone(rt: HostRuntime) -> Result<(), Fail> {
     assert_eq!(rt; run_at(&rt, rt.alloc(), script, &gate)?, 0);
     assert!(rt; gate.is_over.load(Ordering::SeqCst));
     assert!(rt; !gate.came_early.load(Ordering::SeqCst));
+    Ok(())
+}
+
+// A packet comes by a hub to two one2manys, at which it is a writer. Neither has a hook to send it on by.
+const WRITES: &[u8] =
+    b"mkpeer . hub a x\nmkpeer a one2many p one\nmkpeer a one2many q one\nwrite a 1\n";
+
+const WRITES_END: &[u8] = b"summary: fed 4 of 4, applied 6, data refused 2
+dropped: node gone 0, hook gone 0, budget 0
+lost: no peer 0, node gone 0, full 0, spool 0
+graph: nodes 4, hooks 6
+";
+
+#[test]
+fn two_writes_are_inside(rt: HostRuntime) -> Result<(), Fail> {
+    let alloc = rt.alloc();
+    let writes = Arc::new(alloc, Writes::new())?;
+    let boxes = stock(alloc)?;
+    stock_suffices();
+    let boxes = waiting_nodes(alloc, boxes, &writes)?;
+    let (status, out) = run_with(&rt, alloc, WRITES, boxes, &OpenGate)?;
+    assert_eq!(rt; status, 0);
+    assert!(rt; out.bytes().ends_with(WRITES_END));
+    assert_eq!(rt; writes.begun.load(Ordering::SeqCst), 2);
+    assert_eq!(rt; writes.in_vain.load(Ordering::SeqCst), 0);
     Ok(())
 }

@@ -25,11 +25,16 @@ lost: no peer 0, node gone 0, full 0, spool 0
 graph: nodes 2, hooks 2
 ";
 
+// Two inputs are fed, and three items are taken and applied.
+const ECHO_EVENTS: usize = 2 + 3 + 3;
+
 // A run that fails, and what stands after it.
 struct Example {
     words: &'static str,
     files: &'static [Held<'static>],
     room: usize,
+    // Whether the output takes a byte of the text at a time.
+    is_slow: bool,
     // The put of the text that fails, from 1; 0 for none.
     failing: u64,
     fault: Fault,
@@ -38,7 +43,7 @@ struct Example {
     left: &'static [Held<'static>],
 }
 
-const EXAMPLES: [Example; 2] = [
+const EXAMPLES: [Example; 3] = [
     Example {
         words: "-j journal script em0=,out0",
         files: &[
@@ -53,6 +58,7 @@ const EXAMPLES: [Example; 2] = [
             },
         ],
         room: ROOM,
+        is_slow: false,
         failing: 1,
         fault: Fault::WriteFault(Which::Sink),
         text: "",
@@ -69,6 +75,18 @@ const EXAMPLES: [Example; 2] = [
             },
         ],
     },
+    // The first line is taken, a byte at a time.
+    Example {
+        words: "script",
+        files: &[ECHO],
+        room: ROOM,
+        is_slow: true,
+        failing: 21,
+        fault: Fault::WriteFault(Which::Sink),
+        text: "+ mkpeer . echo a b\n",
+        told: "ngrun: can't write output\n",
+        left: &[ECHO],
+    },
     // One byte of the journal is taken.
     Example {
         words: "-j journal script",
@@ -80,6 +98,7 @@ const EXAMPLES: [Example; 2] = [
             },
         ],
         room: 1,
+        is_slow: false,
         failing: 0,
         fault: Fault::WriteFault(Which::Journal),
         text: ECHO_TEXT,
@@ -98,12 +117,13 @@ fn check(
 ) -> Result<(), Fail> {
     let words = words_in(alloc, example.words)?;
     let mut files = files_of(alloc, example.files, example.room, false, 0)?;
-    let mut out = sink(alloc, false, example.failing)?;
+    let mut out = sink(alloc, example.is_slow, example.failing)?;
     let boxes = stock(alloc)?;
     stock_suffices();
     let ended = ngrun(rt, alloc, &words, &mut files, &mut out, boxes, &OpenGate);
     assert_eq!(rt; ended.fault, Some(example.fault), "{}", example.told);
     assert_eq!(rt; ended.status, 74, "{}", example.told);
+    assert_eq!(rt; ended.journal.len(), ECHO_EVENTS, "{}", example.told);
     assert_eq!(rt; str::from_utf8(out.bytes())?, example.text);
     let mut line = Vec::new(alloc);
     fault_line(alloc, &example.fault, &words, &mut line)?;

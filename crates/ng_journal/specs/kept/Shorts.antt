@@ -1,5 +1,5 @@
 -- The events that are kept: each of small numbers as it is, and for each other one the next of a list of their own.
-use Rattle.std.specs.Prelude.{Bool, true, ◌&&◌, nat_lt, List, [], ◌∷◌, Option, Some, None}
+use Rattle.std.specs.Prelude.{ℕ, suc, Bool, true, ◌&&◌, nat_lt, List, [], ◌∷◌, Option, Some, None}
 use Rattle.ng_base.specs.declared.event.Event.{Event}
 use Rattle.ng_base.specs.declared.event.Event.TheVariants as event
 use Rattle.ng_journal.specs.declared.kept.short.Short.{Short}
@@ -31,3 +31,13 @@ events_in (Apply id ∷ shorts) great = event.Apply (record { 0 = id }) ∷ even
 events_in (Stop ∷ shorts) great = event.Stop ∷ events_in shorts great
 events_in (Great ∷ shorts) [] = []
 events_in (Great ∷ shorts) (event ∷ great) = event ∷ events_in shorts great
+
+-- how many of them are of great numbers
+abbrev pub greats_in : List Short → ℕ
+greats_in [] = 0
+greats_in (Feed ∷ shorts) = greats_in shorts
+greats_in (Take seat id ∷ shorts) = greats_in shorts
+greats_in (Back id ∷ shorts) = greats_in shorts
+greats_in (Apply id ∷ shorts) = greats_in shorts
+greats_in (Stop ∷ shorts) = greats_in shorts
+greats_in (Great ∷ shorts) = suc (greats_in shorts)

@@ -1,8 +1,8 @@
 // A journal that is written.
-ghost use Rattle.std.specs.Prelude.{◌≡◌, ◌+◌, ◌<◌, ◌≤◌, ◌^◌, ◌++◌, [], ◌∷◌, length, OnOk, OnErr};
+ghost use Rattle.std.specs.Prelude.{◌≡◌, ◌+◌, ◌<◌, ◌≤◌, ◌^◌, ◌++◌, [], ◌∷◌, length, slice_get, OnOk, OnErr};
 
 use crate::kept::Events;
-use crate::kept::short::{Short, shorten};
+use crate::kept::short::{Short, greats_among, lengthen, shorten};
 use ng_base::{Event, NoMemory};
 use std::alloc::Global;
 use std::marker::Model;
@@ -53,6 +53,19 @@ impl Journal {
         ensures { result ≡ self.now.items }
     {
         Events::new(&self.shorts, &self.great)
+    }
+
+    /// The event at a place, counted from 0, or `None` after the last. It takes one step, but for an event of great numbers: there
+    /// those before it are passed over.
+    pub fn get(&self, at: usize) -> Option<Event>
+        ensures { result ≡ slice_get self.now.items at }
+    {
+        let short = self.shorts.get(at)?;
+        if let Some(event) = lengthen(*short) {
+            return Some(event);
+        }
+        let event = self.great.get(greats_among(&self.shorts[..at]))?;
+        Some(*event)
     }
 
     /// Takes the memory for so many events more.

@@ -1,6 +1,6 @@
 // What an event is kept as.
-ghost use Rattle.std.specs.Prelude.{◌≡◌, is_some, nat_lt, IfSome, Some};
-ghost use Rattle.ng_journal.specs.kept.Shorts.{is_small, of_short};
+ghost use Rattle.std.specs.Prelude.{◌≡◌, [], ◌∷◌, is_some, nat_lt, IfSome, Some};
+ghost use Rattle.ng_journal.specs.kept.Shorts.{greats_in, is_small, of_short};
 
 use ng_base::{Event, ItemId};
 
@@ -76,4 +76,25 @@ pub(super) fn lengthen(short: Short) -> Option<Event>
         Short::Stop => Event::Stop,
         Short::Great => return None,
     })
+}
+
+/// 1 where the event has great numbers, and else 0.
+fn great(short: Short) -> usize
+    ensures { result ≡ greats_in (short ∷ []) }
+{
+    match short {
+        Short::Great => 1,
+        _ => 0,
+    }
+}
+
+/// How many of these are of great numbers.
+pub(super) fn greats_among(shorts: &[Short]) -> usize
+    ensures { result ≡ greats_in shorts.now }
+{
+    let mut count = 0;
+    for short in shorts {
+        count += great(*short);
+    }
+    count
 }

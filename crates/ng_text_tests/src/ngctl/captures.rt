@@ -1,6 +1,6 @@
 // Files that tcpdump and editcap wrote, times by hand, and what faults print.
 use ng_base::{Packet, Stamp};
-use ng_pcap::{CaptureFault, read_capture, write_head, write_packet};
+use ng_pcap::{CaptureFault, count_packets, read_capture, write_head, write_packet};
 use std::alloc::{AllocError, Global};
 use std::process::Abort;
 use std::test::Fail;
@@ -93,6 +93,7 @@ fn is_read(
     let bytes = file(alloc, parts)?;
     let capture = read_capture(alloc, &bytes)?;
     assert_eq!(rt; capture.kept.as_slice().len(), packets.len());
+    assert_eq!(rt; count_packets(&bytes)?, packets.len() as u64);
     for ((stamp, packet), (time, bytes)) in capture.kept.as_slice().iter().zip(packets) {
         assert_eq!(rt; stamp.0, *time);
         assert_eq!(rt; packet.bytes(), *bytes);

@@ -48,6 +48,11 @@ fn a_journal_is_read(rt: HostRuntime) -> Result<(), Fail> {
     let journal = read_journal(alloc, TEXT.as_bytes())?;
     let events: Vec<Event> = journal.events().collect(alloc)?;
     assert!(rt; events.as_slice() == EVENTS.as_slice());
+    for at in 0..=EVENTS.len() {
+        assert_eq!(rt; journal.get(at), EVENTS.get(at).copied());
+    }
+    let again = read_journal(alloc, TEXT.as_bytes())?;
+    assert!(rt; journal.events().eq(again.events()));
     Ok(())
 }
 

@@ -1,6 +1,6 @@
 //! What holds of every sound story. Each function does nothing: its contract is the law.
 
-ghost use Rattle.ng_workers.specs.pool.Plainly.{PlainlyIsPlain, PlainlyIsWhole};
+ghost use Rattle.ng_workers.specs.pool.Plainly.{PartlyIsOrderly, PlainlyIsPlain, PlainlyIsWhole};
 ghost use Rattle.ng_workers.specs.pool.WorkLaws.{JobsAreWorkable};
 
 /// What a seat works on can be worked on.
@@ -17,4 +17,9 @@ pub fn plainly_is_plain()
 /// run over all of them ends where the core stands.
 pub fn plainly_is_whole()
     ensures { PlainlyIsWhole }
+{}
+
+/// The journal of a plain run in which memory ran out is orderly over all inputs, as far as it goes.
+pub fn partly_is_orderly()
+    ensures { PartlyIsOrderly }
 {}

@@ -3,7 +3,7 @@ ghost use Rattle.std.specs.Prelude.{◌≡◌, ◌<◌, [], List, length, true, 
 ghost use Rattle.ng_machine.specs.declared.input.Input.{Input as TheInput};
 ghost use Rattle.ng_machine.specs.Outcome.{nothing};
 ghost use Rattle.ng_workers.specs.pool.Going.{Going, to_do};
-ghost use Rattle.ng_workers.specs.pool.Plainly.{WentPlainly};
+ghost use Rattle.ng_workers.specs.pool.Plainly.{WentPartly, WentPlainly};
 ghost use Rattle.ng_core.specs.CoreStory.{story};
 ghost use Rattle.ng_machine.specs.story.Closing.{close_refusal, closed_with};
 ghost use Rattle.ng_machine.specs.story.Desks.{Others};
@@ -30,6 +30,8 @@ fn go_on<B: Node>(
     requires fits { AreFitFor (story core.old) unfed.old }
     requires blank { outcome.old ≡ nothing }
     ensures going { (start : Story) (inputs : List TheInput) → Going start inputs (story core.old) unfed.old → OnOk result (Going start inputs (story core.new) unfed.new) }
+    ensures partly { (start : Story) (inputs : List TheInput) → Going start inputs (story core.old) unfed.old
+        → OnErr result (WentPartly start inputs (story core.new)) }
     ensures running { OnOk result (has_ended (story core.new) ≡ false) }
     ensures idle { OnOk result ((run_state_of (story core.new)).taken ≡ []) }
     ensures fits { OnOk result (AreFitFor (story core.new) unfed.new) }
@@ -59,6 +61,8 @@ fn go_to_the_end<B: Node>(
     requires fits { AreFitFor (story core.old) unfed.old }
     requires blank { outcome.old ≡ nothing }
     ensures going { (start : Story) (inputs : List TheInput) → Going start inputs (story core.old) unfed.old → OnOk result (Going start inputs (story core.new) unfed.new) }
+    ensures partly { (start : Story) (inputs : List TheInput) → Going start inputs (story core.old) unfed.old
+        → OnErr result (WentPartly start inputs (story core.new)) }
     ensures running { OnOk result (has_ended (story core.new) ≡ false) }
     ensures idle { OnOk result ((run_state_of (story core.new)).taken ≡ []) }
     ensures done { OnOk result (close_refusal (story core.new) (length unfed.new) ≡ None) }
@@ -89,12 +93,14 @@ fn close<B: Node>(core: &mut Core<B>, unfed: &Unfed)
 /// is reached. Nothing may be taken when it is called.
 ///
 /// # Errors
-/// `NoMemory` where memory ran out, and for nothing else; the seat 0 has given up then.
+/// `NoMemory` where memory ran out, and for nothing else. The seat 0 has given up then, and what was fed and done
+/// before stands.
 pub fn plain<B: Node>(alloc: Global, core: &mut Core<B>, inputs: Vec<Input>) -> Result<(), NoMemory>
     requires running { has_ended (story core.old) ≡ false }
     requires idle { (run_state_of (story core.old)).taken ≡ [] }
     requires fits { AreFitFor (story core.old) inputs.items }
     ensures plain { OnOk result (WentPlainly (story core.old) inputs.items (story core.new)) }
+    ensures partly { OnErr result (WentPartly (story core.old) inputs.items (story core.new)) }
     ensures failed { OnErr result (has_failed (story core.new) ≡ true) }
     ensures others { Others 0 (story core.old) (story core.new) }
 {

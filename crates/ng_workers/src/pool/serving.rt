@@ -4,11 +4,11 @@ ghost use Rattle.ng_base.specs.declared.event.Event.TheVariants.{Apply};
 ghost use Rattle.ng_machine.specs.Desk.{Idle};
 ghost use Rattle.ng_machine.specs.KnownRun.{AreFit};
 ghost use Rattle.ng_machine.specs.Outcome.{nothing};
-ghost use Rattle.ng_workers.specs.pool.Going.{IsServed};
+ghost use Rattle.ng_workers.specs.pool.Going.{IsHalfServed, IsServed};
 ghost use Rattle.ng_core.specs.CoreStory.{setting_of, story};
 ghost use Rattle.ng_machine.specs.story.Desks.{Others, story_job};
 ghost use Rattle.ng_machine.specs.story.SoundStory.{IsSoundStory};
-ghost use Rattle.ng_machine.specs.story.Story.{NothingToTake, has_ended, has_failed, with_event};
+ghost use Rattle.ng_machine.specs.story.Story.{NothingToTake, given_up_by, has_ended, has_failed, with_event};
 ghost use Rattle.ng_core_state.specs.Handed.{item_of, job_with};
 
 use crate::pool::work;
@@ -60,7 +60,7 @@ pub(super) fn finish<B: Node>(
 /// packets goes through `outcome`, which has nothing before and after.
 ///
 /// # Errors
-/// `NoMemory` where memory ran out, and for nothing else.
+/// `NoMemory` where memory ran out, and for nothing else: nothing changed, or the item was taken and is dropped.
 pub(super) fn serve_next<B: Node>(
     alloc: Global,
     core: &mut Core<B>,
@@ -71,6 +71,7 @@ pub(super) fn serve_next<B: Node>(
     requires blank { outcome.old ≡ nothing }
     ensures served { IfOk result (λ served. served ≡ true → IsServed (story core.old) (story core.new)) }
     ensures none { IfOk result (λ served. served ≡ false → (core.new ≡ core.old) × NothingToTake (story core.old)) }
+    ensures halted { OnErr result (IsHalfServed (story core.old) (story core.new)) }
     ensures seats { core.new.seats ≡ core.old.seats }
     ensures blank { OnOk result (outcome.new ≡ nothing) }
     ensures others { Others 0 (story core.old) (story core.new) }
@@ -88,6 +89,7 @@ pub(super) fn serve_next<B: Node>(
 
 /// The seat 0 gives up, since memory ran out.
 pub(super) fn give_up<B: Node>(core: &mut Core<B>)
+    ensures gave_up { story core.new ≡ given_up_by (story core.old) 0 }
     ensures failed { has_failed (story core.new) ≡ true }
     ensures others { Others 0 (story core.old) (story core.new) }
 {

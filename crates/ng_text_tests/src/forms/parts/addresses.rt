@@ -1,6 +1,7 @@
 // Tables of addresses: what is read, and what is told of invalid ones.
 use ng_base::{Name, NameFault, NodeId};
 use ng_path::{Head, Hooks, PathFault, read_path};
+use std::alloc::{AllocError, Global};
 use std::test::Fail;
 
 const LONGEST: &str = "abcdefghijklmnopqrstuvwxyz01234";
@@ -113,4 +114,34 @@ fn faults_of_text_are_told(rt: HostRuntime) {
     ] {
         assert_eq!(rt; read_path(text.as_bytes()).err(), Some(fault), "{text:?}");
     }
+}
+
+/// So many bytes of a piece that comes again and again, at most 1,024 times.
+fn repeated(alloc: Global, piece: &str, len: usize) -> Result<Vec<u8>, AllocError> {
+    let mut bytes = Vec::new(alloc);
+    for _ in 0..1024 {
+        bytes.extend_from_slice(piece.as_bytes())?;
+    }
+    bytes.truncate(len);
+    Ok(bytes)
+}
+
+// An address and three that begin with a fault, of 511 bytes and of one more.
+#[test]
+fn more_than_511_bytes_are_too_long(rt: HostRuntime) -> Result<(), Fail> {
+    for (piece, len, fault) in [
+        ("a.", 511, None),
+        ("a.", 512, Some(PathFault::TooLong)),
+        (":", 511, Some(PathFault::EmptyNode)),
+        (":", 512, Some(PathFault::TooLong)),
+        (".", 511, Some(PathFault::TwoDots(0))),
+        (".", 512, Some(PathFault::TooLong)),
+        (" ", 511, Some(PathFault::BadName(0))),
+        (" ", 512, Some(PathFault::TooLong)),
+    ] {
+        let text = repeated(rt.alloc(), piece, len)?;
+        assert_eq!(rt; text.len(), len);
+        assert_eq!(rt; read_path(&text).err(), fault, "{len} bytes of {piece:?}");
+    }
+    Ok(())
 }

@@ -1,9 +1,10 @@
-use Rattle.std.proofs.Common.{sym, ap, subst}
+use Rattle.std.proofs.Common.{◌∙◌, inl, sym, ap, subst}
 use Rattle.ng_core.specs.CoreStory.{CoreStory, story}
 use Rattle.ng_machine.specs.story.Story.{AreFitFor}
 use Rattle.ng_workers.proofs.pool.Idle.{all_idle}
 use Rattle.ng_workers.proofs.pool.Steps.{Tried, served_fits, served_idle, served_lessens, tried, tried_ends, tried_fits, tried_goes, tried_idle, tried_lessens}
 use Rattle.ng_workers.proofs.pool.Stretches.{going_served}
+use Rattle.ng_workers.proofs.pool.PartRuns.{halts, on_err}
 use Rattle.ng_workers.proofs.pool.plainly.go_on.Goals as goal
 use Rattle.ng_workers.proofs.pool.plainly.go_on.Goals.{In_ok-fed}
 
@@ -57,3 +58,14 @@ pub returns-clause-done : goal.returns-clause-done
 returns-clause-done g c =
     tried_ends (story c.args.core.now) (story c.feed_next.new.core) c.args.unfed.now c.feed_next.new.self c.know_story.ensures.sound c.requires.running c.requires.idle c.in_ok-fed.fed
     (try_ g (goal.at.returns-clause-done g c).In_ok-fed)
+
+pub returns-in_err-serve_next-clause-partly : goal.returns-in_err-serve_next-clause-partly
+returns-in_err-serve_next-clause-partly g c = λ start inputs G.
+    on_err c.from_residual.result
+    (halts start inputs (story c.args.core.now) (story c.serve_next.new.core) c.args.unfed.now c.know_story.ensures.sound c.in_err-serve_next.ensures.halted G)
+
+pub returns-in_err-fed-clause-partly : goal.returns-in_err-fed-clause-partly
+returns-in_err-fed-clause-partly g c = λ start inputs G.
+    on_err c.from_residual-in_err-fed.result
+    (halts start inputs (story c.args.core.now) (story c.feed_next.new.core) c.args.unfed.now c.know_story.ensures.sound
+    (inl (ap story (c.in_err-fed.ensures.err ∙ (c.in_ok-serve_next.ensures.none c.if-branch.false).0))) G)
