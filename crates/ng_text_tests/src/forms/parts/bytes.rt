@@ -12,6 +12,10 @@ use std::test::Fail;
 const UP_TO_TOKEN: &[u8; 20] =
     b"\x08\x00\x00\x00\x60\x00\x00\x00\x02\x00\x00\x00\x00\x00\x00\x00\x01\x00\x00\x00";
 
+/// The same with version 7.
+const UP_TO_TOKEN_7: &[u8; 20] =
+    b"\x07\x00\x00\x00\x60\x00\x00\x00\x02\x00\x00\x00\x00\x00\x00\x00\x01\x00\x00\x00";
+
 /// The generic cookie.
 const COOKIE: &[u8; 4] = b"\x1e\x51\xc6\x43";
 
@@ -73,18 +77,28 @@ fn zeros_but(alloc: Global, len: usize, parts: &[(usize, &[u8])]) -> Result<Vec<
     Ok(bytes)
 }
 
-#[test]
-fn mkpeer_has_152_bytes(rt: HostRuntime) -> Result<(), Fail> {
-    let out = mkpeer_bytes(&rt, rt.alloc())?;
-    let parts: [(usize, &[u8]); 6] = [
-        (0, UP_TO_TOKEN),
+/// So many bytes of `mkpeer . echo a b`, by hand, with this start and this name of the command. Zeros follow the message.
+fn mkpeer_by_hand(
+    alloc: Global,
+    start: &'static [u8; 20],
+    name: &'static [u8],
+    len: usize,
+) -> Result<Vec<u8>, Fail> {
+    let parts: [(usize, &'static [u8]); 6] = [
+        (0, start),
         (20, COOKIE),
-        (24, b"mkpeer"),
+        (24, name),
         (56, b"echo"),
         (88, b"a"),
         (120, b"b"),
     ];
-    let want = zeros_but(rt.alloc(), 152, &parts)?;
+    zeros_but(alloc, len, &parts)
+}
+
+#[test]
+fn mkpeer_has_152_bytes(rt: HostRuntime) -> Result<(), Fail> {
+    let out = mkpeer_bytes(&rt, rt.alloc())?;
+    let want = mkpeer_by_hand(rt.alloc(), UP_TO_TOKEN, b"mkpeer", 152)?;
     assert_eq!(rt; out.as_slice(), want.as_slice());
     Ok(())
 }
@@ -99,6 +113,47 @@ fn mkpeer_is_read_back(rt: HostRuntime) -> Result<(), Fail> {
         msg.args.0.as_slice(),
         mkpeer_args(rt.alloc())?.0.as_slice()
     );
+    Ok(())
+}
+
+/// A name of a command that fills its 32 bytes.
+const ENDLESS: &[u8] = b"abcdefghijklmnopqrstuvwxyz012345";
+
+/// One byte fewer, so that a NUL follows.
+const LONGEST: &[u8] = b"abcdefghijklmnopqrstuvwxyz01234";
+
+/// Starts, names of the command and numbers of bytes, and what is told of such bytes. Of several faults the first is told, in
+/// the order of the first four rows.
+const MESSAGES: [(&'static [u8; 20], &'static [u8], usize, Option<MsgFault>); 10] = [
+    (UP_TO_TOKEN, b"mkpeer", 55, Some(MsgFault::Short(55))),
+    (UP_TO_TOKEN_7, b"mkpeer", 152, Some(MsgFault::BadVersion(7))),
+    (
+        UP_TO_TOKEN,
+        b"mkpeer",
+        151,
+        Some(MsgFault::BadLength(96, 95)),
+    ),
+    (UP_TO_TOKEN, ENDLESS, 152, Some(MsgFault::NoNul)),
+    (UP_TO_TOKEN, LONGEST, 152, None),
+    (UP_TO_TOKEN, b"mkpeer", 0, Some(MsgFault::Short(0))),
+    (
+        UP_TO_TOKEN,
+        b"mkpeer",
+        153,
+        Some(MsgFault::BadLength(96, 97)),
+    ),
+    (UP_TO_TOKEN_7, ENDLESS, 55, Some(MsgFault::Short(55))),
+    (UP_TO_TOKEN_7, ENDLESS, 151, Some(MsgFault::BadVersion(7))),
+    (UP_TO_TOKEN, ENDLESS, 151, Some(MsgFault::BadLength(96, 95))),
+];
+
+#[test]
+fn faults_are_read_from_bytes(rt: HostRuntime) -> Result<(), Fail> {
+    for (start, name, len, fault) in &MESSAGES {
+        let bytes = mkpeer_by_hand(rt.alloc(), start, name, *len)?;
+        let told = decode(rt.alloc(), bytes.as_slice(), NodeId(7)).err();
+        assert_eq!(rt; told, *fault, "{len} bytes, {name:?}");
+    }
     Ok(())
 }
 
