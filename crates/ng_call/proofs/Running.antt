@@ -34,7 +34,8 @@ use Rattle.ng_args.specs.declared.words.Source.TheVariants.{FromFiles, Made}
 use Rattle.ng_args.specs.declared.words.Words.{Words}
 use Rattle.ng_call.specs.Said.{InForm}
 use Rattle.ng_call.specs.Found.{Found, AreRead, capture_in}
-use Rattle.ng_call.specs.Run.{setting_of, inputs_in, MayRun}
+use Rattle.ng_call.specs.MayRun.{MayRun}
+use Rattle.ng_call.specs.Run.{setting_of, inputs_in}
 use Rattle.ng_call.specs.Call.{IsFound}
 use Rattle.ng_call.specs.Parts.{AllPass, AreAllWritable}
 

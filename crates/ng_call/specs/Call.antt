@@ -54,12 +54,10 @@ run_status kinds words found journal =
 
 abbrev pub fault_status : Fault → ℕ
 fault_status Usage = 64
-fault_status (Script fault) = 65
-fault_status (Capture port why) = 65
-fault_status (TooBig which) = 65
 fault_status (ReadFault which) = 66
 fault_status (WriteFault which) = 74
 fault_status NoMemory = 71
+fault_status _ = 65
 
 -- what the run makes is its journal
 abbrev pub run_task : List Kind → Task Fault (List Event)

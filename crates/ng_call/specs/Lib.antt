@@ -4,6 +4,7 @@ pub mod Found
 pub mod Steps
 pub mod MadeInForm
 pub mod Run
+pub mod MayRun
 pub mod Writes
 pub mod Call
 pub mod Parts

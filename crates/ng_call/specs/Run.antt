@@ -1,16 +1,12 @@
 -- The run of a script and captures that were read.
-use Rattle.std.specs.Prelude.{◌≡◌, ℕ, ◌+◌, ◌≤◌, true, List, ◌∷◌, map, get_or}
+use Rattle.std.specs.Prelude.{◌≡◌, ℕ, ◌+◌, List, map, get_or}
 use Rattle.ng_base.specs.declared.event.Event.{Event}
 use Rattle.ng_base.specs.declared.kind.Kind.{Kind}
 use Rattle.ng_machine.specs.declared.input.Input.{Input}
 use Rattle.ng_machine.specs.Laws.{Setting, start, IsJournal, world_after}
 use Rattle.ng_machine.specs.Orderly.{IsWhole}
 use Rattle.ng_machine.specs.Plain.{IsPlain}
-use Rattle.ng_machine.specs.LowRun.{IsModest}
 use Rattle.ng_machine.specs.World.{World, Port, blank_port}
-use Rattle.ng_laws.specs.answers.Answers.{HasNames}
-use Rattle.ng_laws.specs.printable.Printable.{AreNumbered, AreTimed}
-use Rattle.ng_base.specs.Names.{are_different}
 use Rattle.ngctl_script.specs.Script.{commands_of}
 use Rattle.ngctl_script.specs.feed.Inputs.{inputs_of}
 use Rattle.ng_table.specs.reading.Reading.{given}
@@ -49,12 +45,3 @@ world_in kinds words found journal = world_after (setting_in kinds words found) 
 -- a port by its place
 abbrev pub port_at : List Port → ℕ → Port
 port_at ports place = get_or ports place blank_port
-
--- what is asked of a run: few applied items, ports and commands, inputs that fit, names, and commands that are numbered
-pub record MayRun (s : Setting) : Type 0 where
-  pub modest : IsModest s
-  pub some : 1 ≤ s.budget
-  pub names : HasNames s
-  pub differ : are_different (s.own ∷ s.ports) ≡ true
-  pub numbered : AreNumbered s
-  pub timed : AreTimed s

@@ -12,7 +12,7 @@ use Rattle.ng_call.specs.ending.Task.{Task}
 use Rattle.ng_call.specs.ending.Writes.{Write}
 use Rattle.ng_call.specs.Found.{Found, IsRead, AreRead, IsTold, TellPorts}
 use Rattle.ng_forecast.specs.declared.ended.ForecastFault.{ForecastFault}
-use Rattle.ng_forecast.specs.declared.ended.ForecastFault.TheVariants.{Usage, Script, Capture, TooBig, ReadFault, WriteFault, Moving, Restless, Wide, Undefined, Big, NoMemory}
+use Rattle.ng_forecast.specs.declared.ended.ForecastFault.TheVariants.{Usage, Script, Capture, TooBig, ReadFault, WriteFault, NoMemory}
 use Rattle.ng_forecast.specs.Steps.{setting_in, IsRun, flights_in, forecast_steps}
 use Rattle.ng_forecast.specs.Text.{bag_text}
 
@@ -46,12 +46,8 @@ fault_status (Capture port why) = 65
 fault_status (TooBig source) = 65
 fault_status (ReadFault source) = 66
 fault_status WriteFault = 74
-fault_status (Moving command) = 4
-fault_status Restless = 4
-fault_status (Wide packet) = 4
-fault_status (Undefined packet) = 4
-fault_status (Big packet) = 4
 fault_status NoMemory = 71
+fault_status _ = 4
 
 -- The bytes that were read, and the journal of the commands in front of every mark: the plain one. There is one.
 pub record ForecastInput : Type 0 where

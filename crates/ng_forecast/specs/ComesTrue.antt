@@ -53,10 +53,7 @@ totals_at w port = port_totals_of (port_in w.ports port)
 -- how many packets came to the reader by a hook
 abbrev pub is_read_by : List ℕ → Told → Bool
 is_read_by hook (tells.Frame name packet) = bytes_eq hook name
-is_read_by hook (tells.Line command) = false
-is_read_by hook (tells.Refused command errno why) = false
-is_read_by hook (tells.Help command) = false
-is_read_by hook (tells.Answer command from cookie number answer) = false
+is_read_by hook _ = false
 
 abbrev pub read_by : World → List ℕ → ℕ
 read_by w hook = times (is_read_by hook) w.told

@@ -28,10 +28,7 @@ use Rattle.ng_forecast.specs.Call.{IsFound, IsBag, world_in}
 
 abbrev pub source_of : Which → Source
 source_of (file.Capture p) = of.Capture p
-source_of file.Script = of.Script
-source_of file.Sink = of.Script
-source_of (file.Leaving p) = of.Script
-source_of file.Journal = of.Script
+source_of _ = of.Script
 
 abbrev pub fault_of : Fault → ForecastFault
 fault_of run.Usage = Usage

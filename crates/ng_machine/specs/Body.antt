@@ -6,9 +6,9 @@ use Rattle.ng_base.specs.declared.ids.ItemId.{ItemId}
 use Rattle.ng_base.specs.declared.ids.NodeId.{NodeId}
 use Rattle.ng_base.specs.declared.kind.Kind.{Kind}
 use Rattle.ng_message.specs.Numbers.{is_reader_number}
-use Rattle.ng_base.specs.declared.kind.Kind.TheVariants.{Hub, Hole, Echo, Tee, Split, One2many, Bridge, Vlan, Patch, Bpf, Ether, Socket, Etf, Macset}
+use Rattle.ng_base.specs.declared.kind.Kind.TheVariants.{One2many}
 use Rattle.ng_machine.specs.declared.body.Body.{Body}
-use Rattle.ng_machine.specs.declared.body.Body.TheVariants.{Frame, Msg, Join2, Join3, Undo, Leave, Rebind, Tick, Learn}
+use Rattle.ng_machine.specs.declared.body.Body.TheVariants.{Frame, Msg, Tick}
 use Rattle.ng_machine.specs.declared.body.Door.{Door}
 use Rattle.ng_machine.specs.declared.body.Door.TheVariants.{Wire, Hook as ByHook}
 use Rattle.ng_machine.specs.declared.body.Lane.{Lane}
@@ -17,66 +17,28 @@ use Rattle.ng_machine.specs.declared.item.Item.{Item}
 
 abbrev pub is_frame : Body → Bool
 is_frame (Frame door link packet) = true
-is_frame (Msg msg) = false
-is_frame (Join2 hook link peer peer_hook) = false
-is_frame (Join3 hook link) = false
-is_frame (Undo hook link errno) = false
-is_frame (Leave hook link) = false
-is_frame (Rebind hook old new peer peer_hook) = false
-is_frame (Tick seconds) = false
-is_frame (Learn hook link addr) = false
+is_frame _ = false
 
 abbrev pub is_tick : Body → Bool
 is_tick (Tick seconds) = true
-is_tick (Frame door link packet) = false
-is_tick (Msg msg) = false
-is_tick (Join2 hook link peer peer_hook) = false
-is_tick (Join3 hook link) = false
-is_tick (Undo hook link errno) = false
-is_tick (Leave hook link) = false
-is_tick (Rebind hook old new peer peer_hook) = false
-is_tick (Learn hook link addr) = false
+is_tick _ = false
 
 -- a packet changes more than counters of this kind, so it wants such a node alone: one2many deals packets out by turns
 abbrev pub writes_by_packets : Kind → Bool
 writes_by_packets One2many = true
-writes_by_packets Bridge = false
-writes_by_packets Hub = false
-writes_by_packets Hole = false
-writes_by_packets Echo = false
-writes_by_packets Tee = false
-writes_by_packets Split = false
-writes_by_packets Vlan = false
-writes_by_packets Patch = false
-writes_by_packets Bpf = false
-writes_by_packets Ether = false
-writes_by_packets Socket = false
-writes_by_packets Etf = false
-writes_by_packets Macset = false
+writes_by_packets _ = false
 
 -- the mode of a body at a node of the kind
 abbrev pub is_writer : Kind → Body → Bool
 is_writer kind (Frame door link packet) = writes_by_packets kind
 is_writer kind (Msg msg) = not (is_reader_number msg.header.cmd)
-is_writer kind (Join2 hook link peer peer_hook) = true
-is_writer kind (Join3 hook link) = true
-is_writer kind (Undo hook link errno) = true
-is_writer kind (Leave hook link) = true
-is_writer kind (Rebind hook old new peer peer_hook) = true
-is_writer kind (Tick seconds) = true
-is_writer kind (Learn hook link addr) = true
+is_writer kind _ = true
 
 -- packets that come by one door stay in order, and so do messages of one sender
 abbrev pub lane_of : Body → Option Lane
 lane_of (Frame door link packet) = Some (OfDoor door)
 lane_of (Msg msg) = Some (OfSender msg.from)
-lane_of (Join2 hook link peer peer_hook) = None
-lane_of (Join3 hook link) = None
-lane_of (Undo hook link errno) = None
-lane_of (Leave hook link) = None
-lane_of (Rebind hook old new peer peer_hook) = None
-lane_of (Tick seconds) = None
-lane_of (Learn hook link addr) = None
+lane_of _ = None
 
 abbrev pub same_door : Door → Door → Bool
 same_door Wire Wire = true

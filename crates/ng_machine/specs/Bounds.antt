@@ -9,7 +9,7 @@ use Rattle.ng_machine.specs.declared.body.Door.{Door}
 use Rattle.ng_machine.specs.declared.body.Exit.{Exit}
 use Rattle.ng_machine.specs.declared.outcome.Outcome.{Outcome}
 use Rattle.ng_machine.specs.Words.{Every}
-use Rattle.ng_machine.specs.State.{KindState, HubState, HoleState, EchoState, SplitState, SocketState, TeeState, One2manyState, BridgeState, VlanState, PatchState, BpfState, EtherState, EtfState, MacsetState, State, blank_kept, kept_with_hook, kept_without_hook}
+use Rattle.ng_machine.specs.State.{KindState, BridgeState, State, blank_kept, kept_with_hook, kept_without_hook}
 use Rattle.ng_machine.specs.Counters.{Count}
 use Rattle.ng_machine.specs.Case.{outcome_of, absorb, kept_after}
 
@@ -20,19 +20,7 @@ Fits packet = length packet ≤ MAX_PACKET_LEN
 -- a bridge's links, which are as many as the hooks that made them
 abbrev pub links_of : KindState → ℕ
 links_of (BridgeState s) = length s.links
-links_of (HubState persistent) = 0
-links_of HoleState = 0
-links_of EchoState = 0
-links_of SplitState = 0
-links_of SocketState = 0
-links_of (TeeState rows) = 0
-links_of (One2manyState s) = 0
-links_of (VlanState s) = 0
-links_of (PatchState ops) = 0
-links_of (BpfState s) = 0
-links_of (EtherState s) = 0
-links_of (EtfState s) = 0
-links_of (MacsetState s) = 0
+links_of _ = 0
 
 -- a packet for each hook or link, or for each of 64 links of a one2many
 abbrev pub most_sent : State → ℕ

@@ -3,7 +3,7 @@ use Rattle.std.specs.Prelude.{ℕ, List, Option, Some, None}
 use Rattle.ng_base.specs.declared.kind.Kind.{Kind}
 use Rattle.ng_base.specs.declared.kind.Kind.TheVariants.{Tee, Split}
 use Rattle.ng_machine.specs.declared.body.Body.{Body}
-use Rattle.ng_machine.specs.declared.body.Body.TheVariants.{Frame, Msg, Join2, Join3, Undo, Leave, Rebind, Tick, Learn}
+use Rattle.ng_machine.specs.declared.body.Body.TheVariants.{Frame, Msg, Tick, Learn}
 use Rattle.ng_machine.specs.declared.body.Door.{Door}
 use Rattle.ng_machine.specs.declared.outcome.Outcome.{Outcome}
 use Rattle.ng_machine.specs.declared.plan.Plan.{Plan}
@@ -132,21 +132,11 @@ kept_after_learn kept hook addr = kept
 abbrev pub outcome_of : State → Body → Outcome
 outcome_of state (Frame door link packet) = outcome_by_plan state (way_of state) door packet
 outcome_of state (Msg msg) = (reply_to state msg.header.cmd msg.args).outcome
-outcome_of state (Join2 hook link peer peer_hook) = nothing
-outcome_of state (Join3 hook link) = nothing
-outcome_of state (Undo hook link errno) = nothing
-outcome_of state (Leave hook link) = nothing
-outcome_of state (Rebind hook old new peer peer_hook) = nothing
-outcome_of state (Tick seconds) = nothing
-outcome_of state (Learn hook link addr) = nothing
+outcome_of state _ = nothing
 
 abbrev pub kept_after : State → Body → KindState
 kept_after state (Frame door link packet) = kept_after_frame state.kept state.hooks door (outcome_of state (Frame door link packet)).counts
 kept_after state (Msg msg) = (reply_to state msg.header.cmd msg.args).after
-kept_after state (Join2 hook link peer peer_hook) = state.kept
-kept_after state (Join3 hook link) = state.kept
-kept_after state (Undo hook link errno) = state.kept
-kept_after state (Leave hook link) = state.kept
-kept_after state (Rebind hook old new peer peer_hook) = state.kept
 kept_after state (Tick seconds) = kept_after_tick state.kept seconds
 kept_after state (Learn hook link addr) = kept_after_learn state.kept hook addr
+kept_after state _ = state.kept

@@ -6,7 +6,7 @@ use Rattle.ng_base.specs.declared.event.Event.TheVariants.{Feed, Take, Back, App
 use Rattle.ng_base.specs.declared.ids.ItemId.{ItemId}
 use Rattle.ng_base.specs.declared.kind.Kind.{Kind}
 use Rattle.ng_machine.specs.declared.body.Body.{Body}
-use Rattle.ng_machine.specs.declared.body.Body.TheVariants.{Frame, Msg, Join2, Join3, Undo, Leave, Rebind, Tick, Learn}
+use Rattle.ng_machine.specs.declared.body.Body.TheVariants.{Frame, Msg, Tick, Learn}
 use Rattle.ng_machine.specs.declared.hook.Hook.{Hook}
 use Rattle.ng_machine.specs.declared.input.Input.{Input}
 use Rattle.ng_machine.specs.declared.item.Item.{Item}
@@ -14,7 +14,7 @@ use Rattle.ng_machine.specs.declared.plan.Plan.{Plan}
 use Rattle.ng_machine.specs.Body.{has_id}
 use Rattle.ng_machine.specs.State.{State, way_of}
 use Rattle.ng_machine.specs.World.{World, NodeRecord, node_at, state_of, kind_at, linked_hook}
-use Rattle.ng_machine.specs.Effect.{MessageClass, AnAnswer, AnOrder, OfKind, Foreign, class_of, is_hook_gone}
+use Rattle.ng_machine.specs.Effect.{MessageClass, OfKind, class_of, is_hook_gone}
 use Rattle.ng_machine.specs.Feed.{RunInput}
 use Rattle.ng_machine.specs.Run.{RunState, Taken, is_of, taken_after, after, beginning}
 use Rattle.ng_machine.specs.Laws.{Setting, start}
@@ -36,9 +36,7 @@ frame_job item state None = Writes item state
 -- of messages, those of the kind's own cookie that write
 abbrev pub is_of_kind : MessageClass → Bool
 is_of_kind OfKind = true
-is_of_kind AnAnswer = false
-is_of_kind AnOrder = false
-is_of_kind Foreign = false
+is_of_kind _ = false
 
 abbrev pub writes_if : Bool → Item → State → Job
 writes_if true item state = Writes item state
@@ -54,11 +52,7 @@ body_job item node (Frame door link packet) = frame_job item (state_of node) (wa
 body_job item node (Msg msg) = writes_if (item.writer && is_of_kind (class_of (kind_at node) msg)) item (state_of node)
 body_job item node (Tick seconds) = Writes item (state_of node)
 body_job item node (Learn hook link addr) = learn_job item (state_of node) (linked_hook node hook link)
-body_job item node (Join2 hook link peer peer_hook) = Within item
-body_job item node (Join3 hook link) = Within item
-body_job item node (Undo hook link errno) = Within item
-body_job item node (Leave hook link) = Within item
-body_job item node (Rebind hook old new peer peer_hook) = Within item
+body_job item node _ = Within item
 
 -- a packet that will be dropped needs no work
 abbrev pub job_unless_gone : Bool → Item → NodeRecord → Job

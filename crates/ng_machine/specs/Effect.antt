@@ -144,16 +144,7 @@ lacks_link node hook (Some link) = is_none (linked_hook node hook link)
 
 abbrev pub is_hook_gone : Option NodeRecord → Body → Bool
 is_hook_gone (Some node) (Frame (ByHook hook) link packet) = lacks_link node hook link
-is_hook_gone (Some node) (Frame Wire link packet) = false
-is_hook_gone (Some node) (Msg msg) = false
-is_hook_gone (Some node) (Join2 hook link peer peer_hook) = false
-is_hook_gone (Some node) (Join3 hook link) = false
-is_hook_gone (Some node) (Undo hook link errno) = false
-is_hook_gone (Some node) (Leave hook link) = false
-is_hook_gone (Some node) (Rebind hook old new peer peer_hook) = false
-is_hook_gone (Some node) (Tick seconds) = false
-is_hook_gone (Some node) (Learn hook link addr) = false
-is_hook_gone None body = false
+is_hook_gone _ _ = false
 
 -- The item is no longer pending, and is done or dropped.
 

@@ -3,7 +3,7 @@ use Rattle.std.specs.Prelude.{◌≡◌, ◌≢◌, ℕ, ◌+◌, ◌<◌, ◌�
 use Rattle.std.specs.List.{list_any}
 use Rattle.ng_base.specs.declared.cause.Cause.{Cause}
 use Rattle.ng_base.specs.declared.event.Event.{Event}
-use Rattle.ng_base.specs.declared.event.Event.TheVariants.{Feed, Take, Back, Apply, Stop}
+use Rattle.ng_base.specs.declared.event.Event.TheVariants.{Take, Back, Apply, Stop}
 use Rattle.ng_base.specs.declared.ids.ItemId.{ItemId}
 use Rattle.ng_base.specs.declared.ids.NodeId.{NodeId}
 use Rattle.ng_base.specs.declared.kind.Kind.{Kind}
@@ -59,11 +59,8 @@ abbrev pub IsAccounted : World → Type 0
 IsAccounted w = (id : ItemId) → times_done w id + (times_dropped w id + times_pending w id) ≡ (if nat_le 1 id.0 && nat_lt id.0 w.next_item then 1 else 0)
 
 abbrev pub is_apply : ItemId → Event → Bool
-is_apply id Feed = false
-is_apply id (Take seat other) = false
-is_apply id (Back other) = false
 is_apply id (Apply other) = other.0 == id.0
-is_apply id Stop = false
+is_apply id _ = false
 
 abbrev pub Once : Type 0
 Once = (s : Setting) (journal : List Event) → IsJournal s journal → IsAccounted (world_after s journal) × ((id : ItemId) → times (is_apply id) journal ≤ 1)
@@ -92,11 +89,9 @@ IsAlone =
 
 -- the event ends the taking of this item
 abbrev pub ends : ItemId → Event → Bool
-ends id Feed = false
-ends id (Take seat other) = false
 ends id (Back other) = other.0 == id.0
 ends id (Apply other) = other.0 == id.0
-ends id Stop = false
+ends id _ = false
 
 abbrev pub name_at : Option NodeRecord → Option (Option (List ℕ))
 name_at None = None

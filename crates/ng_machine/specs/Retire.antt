@@ -3,7 +3,7 @@ use Rattle.std.specs.Prelude.{ℕ, Bool, true, false, not, ◌&&◌, ◌||◌, �
 use Rattle.ng_base.specs.declared.errno.Errno.{Errno}
 use Rattle.ng_base.specs.declared.ids.NodeId.{NodeId}
 use Rattle.ng_machine.specs.declared.body.Body.{Body}
-use Rattle.ng_machine.specs.declared.body.Body.TheVariants.{Frame, Msg, Join2, Join3, Undo, Leave, Rebind, Tick, Learn}
+use Rattle.ng_machine.specs.declared.body.Body.TheVariants.{Msg, Join2, Undo, Leave, Rebind}
 use Rattle.ng_machine.specs.declared.hook.Hook.{Hook}
 use Rattle.ng_machine.specs.declared.item.Item.{Item}
 use Rattle.ng_machine.specs.declared.told.Told.TheVariants.{Refused}
@@ -24,13 +24,7 @@ refuse (Some command) errno = Notes (Tells (Refused command errno [])) ∷ []
 abbrev pub aftermath_of : Item → Body → List Change
 aftermath_of item (Msg msg) = refuse item.tag enxio
 aftermath_of item (Join2 hook link peer peer_hook) = Accepts peer (Undo peer_hook link enxio) item.tag ∷ []
-aftermath_of item (Frame door link packet) = []
-aftermath_of item (Join3 hook link) = []
-aftermath_of item (Undo hook link errno) = []
-aftermath_of item (Leave hook link) = []
-aftermath_of item (Rebind hook old new peer peer_hook) = []
-aftermath_of item (Tick seconds) = []
-aftermath_of item (Learn hook link addr) = []
+aftermath_of item _ = []
 
 abbrev pub aftermath : Item → List Change
 aftermath item = aftermath_of item item.body

@@ -4,7 +4,7 @@ use Rattle.std.specs.Prelude.{ℕ, ◌+◌, Bool, true, false, ◌||◌, if◌th
 use Rattle.std.specs.Str.{bytes_eq}
 use Rattle.ng_base.specs.declared.errno.Errno.{Errno}
 use Rattle.ng_base.specs.declared.kind.Kind.{Kind}
-use Rattle.ng_base.specs.declared.kind.Kind.TheVariants.{Hub, Hole, Echo, Tee, Split, One2many, Bridge, Vlan, Patch, Bpf, Ether, Socket, Etf, Macset}
+use Rattle.ng_base.specs.declared.kind.Kind.TheVariants.{Tee, Split, One2many, Bridge, Patch, Ether, Socket, Macset}
 use Rattle.ng_base.specs.Kind.{same_kind}
 use Rattle.ng_base.specs.Names.{has_name}
 use Rattle.ng_machine.specs.declared.farewell.Farewell.{Farewell}
@@ -12,24 +12,18 @@ use Rattle.ng_machine.specs.declared.farewell.Farewell.TheVariants.{Plain, Stay,
 use Rattle.ng_machine.specs.Errors.{einval}
 use Rattle.ng_machine.specs.Names.{lower, upper, in_hook, out_hook, mixed, left, right, tee_hooks, one, all_hook, known_hook, other_hook, is_numbered}
 use Rattle.ng_machine.specs.kinds.Bridge.{most_links}
-use Rattle.ng_machine.specs.State.{KindState, HubState, HoleState, EchoState, SplitState, SocketState, TeeState, One2manyState, BridgeState, VlanState, PatchState, BpfState, EtherState, EtfState, MacsetState}
+use Rattle.ng_machine.specs.State.{KindState, HubState, SocketState, BridgeState, EtherState}
 
 -- the kind takes a hook of this name
 abbrev pub accepts_hook : Kind → List ℕ → Bool
-accepts_hook Hub hook = true
-accepts_hook Hole hook = true
-accepts_hook Echo hook = true
 accepts_hook Tee hook = has_name tee_hooks hook
 accepts_hook Split hook = has_name (in_hook ∷ out_hook ∷ mixed ∷ []) hook
 accepts_hook One2many hook = bytes_eq hook one || is_numbered (codes "many") 64 hook
 accepts_hook Bridge hook = is_numbered (codes "link") most_links hook
-accepts_hook Vlan hook = true
 accepts_hook Patch hook = has_name (in_hook ∷ out_hook ∷ []) hook
-accepts_hook Bpf hook = true
 accepts_hook Ether hook = has_name (lower ∷ upper ∷ []) hook
-accepts_hook Socket hook = true
-accepts_hook Etf hook = true
 accepts_hook Macset hook = has_name (all_hook ∷ known_hook ∷ other_hook ∷ []) hook
+accepts_hook _ hook = true
 
 -- the answer to a hook's name: EINVAL where the kind doesn't take it
 abbrev pub may_of : Kind → List ℕ → Result Unit Errno
@@ -41,34 +35,15 @@ is_lasting (HubState persistent) = persistent
 is_lasting (BridgeState s) = s.persistent
 is_lasting SocketState = true
 is_lasting (EtherState s) = true
-is_lasting HoleState = false
-is_lasting EchoState = false
-is_lasting SplitState = false
-is_lasting (TeeState rows) = false
-is_lasting (One2manyState s) = false
-is_lasting (VlanState s) = false
-is_lasting (PatchState ops) = false
-is_lasting (BpfState s) = false
-is_lasting (EtfState s) = false
-is_lasting (MacsetState s) = false
+is_lasting _ = false
 
 -- what a node does at a shutdown: it goes; or it stays without its hooks, as ng_ether(4) says and as this project has
 -- it of the socket; or it goes and leaves its two peers joined to each other, as ng_tee(4) says
 abbrev pub farewell_of : Kind → Farewell
-farewell_of Hub = Plain
-farewell_of Hole = Plain
-farewell_of Echo = Plain
 farewell_of Tee = Bypass left right
-farewell_of Split = Plain
-farewell_of One2many = Plain
-farewell_of Bridge = Plain
-farewell_of Vlan = Plain
-farewell_of Patch = Plain
-farewell_of Bpf = Plain
 farewell_of Ether = Stay
 farewell_of Socket = Stay
-farewell_of Etf = Plain
-farewell_of Macset = Plain
+farewell_of _ = Plain
 
 -- nodes of these types are there from the start, and no command makes one
 abbrev pub is_fixed : Kind → Bool

@@ -4,7 +4,7 @@ use Rattle.std.specs.Prelude.{◌≡◌, ℕ, ◌==◌, true, false, if◌then�
 use Rattle.std.specs.List.{list_any}
 use Rattle.std.specs.Option.{option_or}
 use Rattle.ng_base.specs.declared.event.Event.{Event}
-use Rattle.ng_base.specs.declared.event.Event.TheVariants.{Feed, Take, Back, Apply, Stop}
+use Rattle.ng_base.specs.declared.event.Event.TheVariants.{Take, Back, Apply}
 use Rattle.ng_base.specs.declared.ids.ItemId.{ItemId}
 use Rattle.ng_machine.specs.declared.item.Item.{Item}
 use Rattle.ng_machine.specs.Words.{Has}
@@ -30,10 +30,7 @@ SpentTakesNothing = (s : Setting) (journal : List Event) → IsJournal s journal
 
 abbrev pub taker : ItemId → Event → Option ℕ
 taker id (Take seat other) = if other.0 == id.0 then Some seat else None
-taker id Feed = None
-taker id (Back other) = None
-taker id (Apply other) = None
-taker id Stop = None
+taker id _ = None
 
 -- the seat of the last Take of the item
 abbrev pub last_taker : ItemId → List Event → Option ℕ

@@ -5,9 +5,9 @@ use Rattle.std.specs.Str.{bytes_eq}
 use Rattle.ng_base.specs.declared.ids.LinkId.{LinkId}
 use Rattle.ng_base.specs.declared.ids.NodeId.{NodeId}
 use Rattle.ng_base.specs.declared.kind.Kind.{Kind}
-use Rattle.ng_base.specs.declared.kind.Kind.TheVariants.{Hub, Hole, Echo, Tee, Split, One2many, Bridge, Vlan, Patch, Bpf, Ether, Socket, Etf, Macset}
+use Rattle.ng_base.specs.declared.kind.Kind.TheVariants.{One2many, Bridge}
 use Rattle.ng_machine.specs.declared.body.Body.{Body}
-use Rattle.ng_machine.specs.declared.body.Body.TheVariants.{Frame, Msg, Join2, Join3, Undo, Leave, Rebind, Tick, Learn}
+use Rattle.ng_machine.specs.declared.body.Body.TheVariants.{Frame}
 use Rattle.ng_machine.specs.declared.body.Door.{Door}
 use Rattle.ng_machine.specs.declared.body.Door.TheVariants.{Wire, Hook as ByHook}
 use Rattle.ng_machine.specs.declared.body.Exit.{Exit}
@@ -30,14 +30,9 @@ Spread = List (Place × List ℕ)
 
 abbrev pub same_place : Place → Place → Bool
 same_place (ToWire a) (ToWire b) = a == b
-same_place (ToWire a) (ToHost b) = false
-same_place (ToWire a) (ToReader b) = false
-same_place (ToHost a) (ToWire b) = false
 same_place (ToHost a) (ToHost b) = a == b
-same_place (ToHost a) (ToReader b) = false
-same_place (ToReader a) (ToWire b) = false
-same_place (ToReader a) (ToHost b) = false
 same_place (ToReader a) (ToReader b) = bytes_eq a b
+same_place _ _ = false
 
 abbrev pub same_pair : Place × List ℕ → Place × List ℕ → Bool
 same_pair a b = same_place a.0 b.0 && bytes_eq a.1 b.1
@@ -65,14 +60,7 @@ fed_flight port packet = record { to = port_node port; door = Wire; link = None;
 -- the packet of an item, if it is one
 abbrev pub flights_to : NodeId → Body → List Flight
 flights_to to (Frame door link packet) = record { to = to; door = door; link = link; packet = packet } ∷ []
-flights_to to (Msg msg) = []
-flights_to to (Join2 hook link peer peer_hook) = []
-flights_to to (Join3 hook link) = []
-flights_to to (Undo hook link errno) = []
-flights_to to (Leave hook link) = []
-flights_to to (Rebind hook old new peer peer_hook) = []
-flights_to to (Tick seconds) = []
-flights_to to (Learn hook link addr) = []
+flights_to to _ = []
 
 -- the packets among what waits
 abbrev pub waiting : List Item → List Flight
@@ -83,18 +71,7 @@ waiting (item ∷ items) = flights_to item.to item.body ++ waiting items
 abbrev pub is_followed : Kind → Bool
 is_followed Bridge = false
 is_followed One2many = false
-is_followed Hub = true
-is_followed Hole = true
-is_followed Echo = true
-is_followed Tee = true
-is_followed Split = true
-is_followed Vlan = true
-is_followed Patch = true
-is_followed Bpf = true
-is_followed Ether = true
-is_followed Socket = true
-is_followed Etf = true
-is_followed Macset = true
+is_followed _ = true
 
 -- What becomes of a packet at the node that it comes to: nothing, since the node or its hook isn't there; no one can say; or
 -- some copies leave, and some are sent on.

@@ -14,7 +14,8 @@ use Rattle.ng_core.specs.Beginning.{begun_core}
 use Rattle.ng_base.specs.Names.{are_different}
 use Rattle.ng_core.specs.CoreStory.{CoreStory, story}
 use Rattle.ng_machine.specs.story.Story.{AreFitFor, world_of}
-use Rattle.ng_call.specs.Run.{MayRun, setting_of}
+use Rattle.ng_call.specs.MayRun.{MayRun}
+use Rattle.ng_call.specs.Run.{setting_of}
 use Rattle.ng_args.specs.declared.port.PortWord.{PortWord}
 use Rattle.ng_args.specs.declared.words.ReplayWords.{ReplayWords}
 use Rattle.ng_replay.specs.Call.{run_of}

@@ -11,14 +11,11 @@ use Rattle.ng_replay.specs.declared.ended.ReplayFault.TheVariants.{Usage, Script
 
 abbrev pub fault_status : ReplayFault → ℕ
 fault_status Usage = 64
-fault_status (Script fault) = 65
-fault_status (Capture port why) = 65
-fault_status (Journal line) = 65
-fault_status (TooBig which) = 65
 fault_status (ReadFault which) = 66
 fault_status WriteFault = 74
 fault_status (No at) = 3
 fault_status NoMemory = 71
+fault_status _ = 65
 
 abbrev pub status_of : Option ReplayFault → ℕ
 status_of None = 0
@@ -28,9 +25,7 @@ status_of (Some fault) = fault_status fault
 abbrev pub given_of : Which → Given
 given_of of.Script = given.Script
 given_of (of.Capture port) = given.Capture port
-given_of of.Journal = given.Journal
-given_of of.Sink = given.Journal
-given_of (of.Leaving port) = given.Journal
+given_of _ = given.Journal
 
 abbrev pub replay_fault : Fault → ReplayFault
 replay_fault of_run.Usage = Usage

@@ -21,27 +21,20 @@ which_of given.Journal = of.Journal
 
 -- the fault of a run that is told in the same words
 abbrev pub said_as : ReplayFault → Option Fault
-said_as Usage = None
 said_as (Script fault) = Some (of_run.Script fault)
 said_as (Capture port why) = Some (of_run.Capture port why)
-said_as (Journal line) = None
 said_as (TooBig which) = Some (of_run.TooBig (which_of which))
 said_as (ReadFault which) = Some (of_run.ReadFault (which_of which))
 said_as WriteFault = Some (of_run.WriteFault of.Sink)
-said_as (No at) = None
 said_as NoMemory = Some of_run.NoMemory
+said_as _ = None
 
 -- what is said of the others
 abbrev pub own_words : ReplayFault → List ℕ
 own_words Usage = codes "usage: ngrun --replay BUDGET WORKERS NAME JOURNAL SCRIPT [PORT=IN ..]"
-own_words (Script fault) = []
-own_words (Capture port why) = []
 own_words (Journal line) = codes "journal line " ++ decimal line
-own_words (TooBig which) = []
-own_words (ReadFault which) = []
-own_words WriteFault = []
 own_words (No at) = codes "journal refused at event " ++ decimal at
-own_words NoMemory = []
+own_words _ = []
 
 abbrev pub words_by : Option Fault → ReplayFault → Option Words → List ℕ
 words_by (Some same) fault words = fault_words same words

@@ -5,7 +5,8 @@ ghost use Rattle.ng_replay.specs.declared.judge.verdict.Verdict.TheVariants.{Yes
 ghost use Rattle.ng_machine.specs.Laws.{world_after};
 ghost use Rattle.ng_replay.specs.Call.{run_of};
 ghost use Rattle.ng_call.specs.Called.{kinds_of};
-ghost use Rattle.ng_call.specs.Run.{MayRun, setting_of};
+ghost use Rattle.ng_call.specs.MayRun.{MayRun};
+ghost use Rattle.ng_call.specs.Run.{setting_of};
 ghost use Rattle.ng_core.specs.Stocked.{IsStocked};
 ghost use Rattle.ng_core.specs.CoreStory.{story};
 ghost use Rattle.ng_machine.specs.story.Story.{world_of};

@@ -8,7 +8,8 @@ ghost use Rattle.ng_run.specs.Begun.{begun_by};
 ghost use Rattle.ng_core.specs.CoreStory.{story};
 ghost use Rattle.ng_machine.specs.story.Story.{world_of};
 ghost use Rattle.ng_args.specs.Run.{ports_from};
-ghost use Rattle.ng_call.specs.Run.{IsRun, MayRun, setting_of};
+ghost use Rattle.ng_call.specs.MayRun.{MayRun};
+ghost use Rattle.ng_call.specs.Run.{IsRun, setting_of};
 
 use ng_args::Words;
 use ng_base::NoMemory;

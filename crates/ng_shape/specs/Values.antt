@@ -67,10 +67,8 @@ chars _ = []
 
 -- the members that a value has
 abbrev pub members : Value → List (ℕ × Value)
-members Absent = []
-members (Number left n) = []
-members (Text bs) = []
 members (Group left ms) = unpack ms
+members _ = []
 
 -- the first member of that number, and nothing where there is none
 abbrev pub find : ℕ → List (ℕ × Value) → Value

@@ -2,7 +2,7 @@
 use Rattle.std.specs.Prelude.{ℕ, ◌==◌, if◌then◌else◌, List, [], find, option_map, Option, Some, None}
 use Rattle.std.specs.Str.{bytes_eq}
 use Rattle.ng_base.specs.declared.kind.Kind.{Kind}
-use Rattle.ng_base.specs.declared.kind.Kind.TheVariants.{Hub, Hole, Echo, Tee, Split, One2many, Bridge, Vlan, Patch, Bpf, Ether, Socket, Etf, Macset}
+use Rattle.ng_base.specs.declared.kind.Kind.TheVariants.{Hub, Tee, One2many, Bridge, Vlan, Patch, Bpf, Ether, Etf, Macset}
 use Rattle.ng_table.specs.Message.{Message}
 use Rattle.ng_table.specs.Cookie.{generic_cookie, cookie_of, kind_with}
 use Rattle.ng_table.specs.Generic.{generic_messages}
@@ -20,19 +20,16 @@ use Rattle.ng_table.specs.Macset.{macset_messages}
 -- the messages of a type of node, beside those that all nodes know
 abbrev pub messages_of : Kind → List Message
 messages_of Hub = hub_messages
-messages_of Hole = []
-messages_of Echo = []
 messages_of Tee = tee_messages
-messages_of Split = []
 messages_of One2many = one2many_messages
 messages_of Bridge = bridge_messages
 messages_of Vlan = vlan_messages
 messages_of Patch = patch_messages
 messages_of Bpf = bpf_messages
 messages_of Ether = ether_messages
-messages_of Socket = []
 messages_of Etf = etf_messages
 messages_of Macset = macset_messages
+messages_of _ = []
 
 abbrev pub messages_if : Option Kind → List Message
 messages_if None = []

@@ -1,7 +1,7 @@
 -- What the desk of a seat may become while the seat works.
 use Rattle.std.specs.Prelude.{◌≡◌, ◌⊎◌, ℕ, ◌<◌, Bool, true, false, List, ◌++◌}
 use Rattle.ng_base.specs.declared.event.Event.{Event}
-use Rattle.ng_base.specs.declared.event.Event.TheVariants.{Feed, Take, Back, Apply, Stop}
+use Rattle.ng_base.specs.declared.event.Event.TheVariants.{Feed, Back}
 use Rattle.ng_machine.specs.Desk.{SeatDesk, Idle}
 use Rattle.ng_machine.specs.Words.{Every, times}
 use Rattle.ng_core.specs.CoreStory.{CoreStory, story}
@@ -12,18 +12,12 @@ abbrev pub core_desk : CoreStory → ℕ → SeatDesk
 core_desk core seat = story_desk (story core) seat
 
 abbrev pub is_back : Event → Bool
-is_back Feed = false
-is_back (Take seat id) = false
 is_back (Back id) = true
-is_back (Apply id) = false
-is_back Stop = false
+is_back _ = false
 
 abbrev pub is_feed : Event → Bool
 is_feed Feed = true
-is_feed (Take seat id) = false
-is_feed (Back id) = false
-is_feed (Apply id) = false
-is_feed Stop = false
+is_feed _ = false
 
 -- an item is put back by a seat that gives up, and by no other
 abbrev pub MayBack : Bool → List Event → Type 0

@@ -33,12 +33,10 @@ past before (CommandLine line) = record before { commands = before.commands + 1 
 
 -- a mark may stand behind another: `@end` anywhere, and a number behind none that is greater, and not behind `@end`
 abbrev pub may_follow : When → Option When → Bool
-may_follow last None = false
-may_follow last (Some First) = false
 may_follow last (Some Late) = true
 may_follow First (Some (After n)) = true
-may_follow Late (Some (After n)) = false
 may_follow (After last) (Some (After n)) = nat_le last n
+may_follow _ _ = false
 
 abbrev pub is_wrong : Before → Line → Bool
 is_wrong before (Mark mark) = if may_follow before.when mark then false else true

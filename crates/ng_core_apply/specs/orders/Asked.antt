@@ -4,7 +4,7 @@ use Rattle.ng_base.specs.declared.ids.NodeId.{NodeId}
 use Rattle.ng_message.specs.declared.message.Header.{Header}
 use Rattle.ng_message.specs.declared.message.Msg.{Msg as Message}
 use Rattle.ng_machine.specs.declared.body.Body.{Body}
-use Rattle.ng_machine.specs.declared.body.Body.TheVariants.{Frame, Msg, Join2, Join3, Undo, Leave, Rebind, Tick, Learn}
+use Rattle.ng_machine.specs.declared.body.Body.TheVariants.{Msg}
 use Rattle.ng_machine.specs.Change.{Change}
 use Rattle.ng_machine.specs.declared.hook.Hook.{Hook}
 use Rattle.ng_machine.specs.Effect.{told_answer}
@@ -51,11 +51,4 @@ message_of sender header = record { from = sender; header = header; args = [] }
 -- what an item brings is told as an answer to the command of this tag, where it is a message
 abbrev pub told_by : Option ℕ → Body → List Change
 told_by tag (Msg msg) = told_answer msg tag
-told_by tag (Frame door link packet) = []
-told_by tag (Join2 hook link peer peer_hook) = []
-told_by tag (Join3 hook link) = []
-told_by tag (Undo hook link errno) = []
-told_by tag (Leave hook link) = []
-told_by tag (Rebind hook old new peer peer_hook) = []
-told_by tag (Tick seconds) = []
-told_by tag (Learn hook link addr) = []
+told_by tag _ = []

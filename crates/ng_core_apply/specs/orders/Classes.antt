@@ -5,7 +5,7 @@ use Rattle.ng_base.specs.declared.ids.NodeId.{NodeId}
 use Rattle.ng_machine.specs.declared.item.Item.{Item}
 use Rattle.ng_machine.specs.Effect.{MessageClass, AnAnswer, AnOrder, OfKind, Foreign}
 use Rattle.ng_machine.specs.Generic.{carry_out, ordered_by}
-use Rattle.ng_machine.specs.Order.{Order, Shutdown, Mkpeer, Connect, Rename, Rmhook, Asks}
+use Rattle.ng_machine.specs.Order.{Order, Shutdown, Rmhook, Asks}
 use Rattle.ng_message.specs.declared.message.Header.{Header}
 use Rattle.ng_core_apply.specs.declared.orders.inside.Inside.{Inside}
 use Rattle.ng_core_apply.specs.declared.orders.inside.Inside.TheVariants.{Done, Left}
@@ -29,11 +29,9 @@ carries_out item sender header order a node = carry_out (world_at a item) item n
 -- the orders that change the graph and aren't left
 abbrev pub changes_graph : Order → Bool
 changes_graph Shutdown = false
-changes_graph (Mkpeer kind ours theirs) = true
-changes_graph (Connect address ours theirs) = true
-changes_graph (Rename name) = true
 changes_graph (Rmhook hook) = false
 changes_graph (Asks question) = false
+changes_graph _ = true
 
 -- an order that is done is carried out; one that is left is one by which a node or a hook goes, and nothing changed
 abbrev pub OrderBecame : {B : Type 0} → State B → State B → Item → NodeId → Header → Order → Inside → Type 0

@@ -3,12 +3,12 @@ use Rattle.std.specs.Prelude.{◌≡◌, Bool, true, false, Some, Result, Ok, Er
 use Rattle.ng_base.specs.declared.errno.Errno.{Errno}
 use Rattle.ng_base.specs.declared.kind.Kind.{Kind}
 use Rattle.ng_machine.specs.declared.body.Body.{Body}
-use Rattle.ng_machine.specs.declared.body.Body.TheVariants.{Frame, Msg, Join2, Join3, Undo, Leave, Rebind, Tick, Learn}
+use Rattle.ng_machine.specs.declared.body.Body.TheVariants.{Msg, Leave, Tick}
 use Rattle.ng_machine.specs.declared.item.Item.{Item}
 use Rattle.ng_machine.specs.Desk.{Within, job_at}
 use Rattle.ng_machine.specs.Effect.{MessageClass, AnAnswer, AnOrder, OfKind, Foreign, class_of}
 use Rattle.ng_machine.specs.LowRun.{IsLow}
-use Rattle.ng_machine.specs.Order.{Order, Shutdown, Mkpeer, Connect, Rename, Rmhook, Asks, read_order}
+use Rattle.ng_machine.specs.Order.{Order, Shutdown, Rmhook, read_order}
 use Rattle.ng_machine.specs.Run.{RunState}
 use Rattle.ng_machine.specs.World.{NodeRecord, kind_at}
 use Rattle.ng_message.specs.declared.message.Msg.{Msg as Message}
@@ -29,10 +29,7 @@ pub record IsInside {B : Type 0} (s : State B) (item : Item) (a : RunState) (nod
 abbrev pub removes : Order → Bool
 removes Shutdown = true
 removes (Rmhook hook) = true
-removes (Mkpeer kind ours theirs) = false
-removes (Connect address ours theirs) = false
-removes (Rename name) = false
-removes (Asks question) = false
+removes _ = false
 
 abbrev pub removes_as_read : Result Order Errno → Bool
 removes_as_read (Ok order) = removes order
@@ -50,12 +47,7 @@ abbrev pub is_left : Kind → Body → Bool
 is_left kind (Msg msg) = is_left_message (class_of kind msg) msg
 is_left kind (Leave hook link) = true
 is_left kind (Tick seconds) = true
-is_left kind (Frame door link packet) = false
-is_left kind (Join2 hook link peer peer_hook) = false
-is_left kind (Join3 hook link) = false
-is_left kind (Undo hook link errno) = false
-is_left kind (Rebind hook old new peer peer_hook) = false
-is_left kind (Learn hook link addr) = false
+is_left kind _ = false
 
 -- an item that is done was none of those, and is applied; one that is left was one, and nothing changed
 abbrev pub Became : {B : Type 0} → State B → State B → Item → Inside → Type 0

@@ -10,7 +10,7 @@ use Rattle.ng_machine.specs.declared.input.Input.{Input}
 use Rattle.ng_machine.specs.declared.input.Input.TheVariants.{Command, Late, Packet, Tick}
 use Rattle.ng_machine.specs.declared.item.Item.{Item}
 use Rattle.ng_machine.specs.declared.told.Told.{Told}
-use Rattle.ng_machine.specs.declared.told.Told.TheVariants.{Line, Answer, Refused, Help, Frame as ToldFrame}
+use Rattle.ng_machine.specs.declared.told.Told.TheVariants.{Frame as ToldFrame}
 use Rattle.ng_machine.specs.Words.{Has, Every, times}
 use Rattle.ng_machine.specs.Body.{has_frame}
 use Rattle.ng_machine.specs.State.{way_of}
@@ -68,11 +68,8 @@ IsTraffic (Some (Command command)) = ⊥
 IsTraffic (Some (Late command)) = ⊥
 
 abbrev pub is_stop : Event → Bool
-is_stop Feed = false
-is_stop (Take seat id) = false
-is_stop (Back id) = false
-is_stop (Apply id) = false
 is_stop Stop = true
+is_stop _ = false
 
 -- after the first journal only packets are pending, and the second feeds packets and ticks alone and doesn't stop
 pub record IsTrafficAfter (s : Setting) (before more : List Event) : Type 0 where
@@ -115,10 +112,7 @@ same_packet bytes x = bytes_eq bytes x.1
 
 abbrev pub is_told_packet : List ℕ → List ℕ → Told → Bool
 is_told_packet hook bytes (ToldFrame name packet) = bytes_eq hook name && bytes_eq bytes packet
-is_told_packet hook bytes (Line command) = false
-is_told_packet hook bytes (Refused command errno why) = false
-is_told_packet hook bytes (Help command) = false
-is_told_packet hook bytes (Answer command from cookie number answer) = false
+is_told_packet hook bytes _ = false
 
 abbrev pub port_in : List Port → ℕ → Port
 port_in ports port = slice_index_or ports port blank_port
