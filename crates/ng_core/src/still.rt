@@ -59,11 +59,12 @@ impl<'a, B: Node> Still<'a, B> {
         self.graph.kind(id)
     }
 
-    /// The hook of that name at the node of that number: none exactly where that node or its hook isn't there.
-    pub fn hook(&self, id: NodeId, name: &Name) -> Option<&Hook>
+    /// The hook of that name at the node of that number: none exactly where that node or its hook isn't there. It is looked for
+    /// at a place among the node's hooks and at the next one first, so whoever asks for hooks in their order finds each at once.
+    pub fn hook_near(&self, id: NodeId, name: &Name, near: usize) -> Option<&Hook>
         ensures { option_copied result ≡ hook_at (node_in self.now.nodes id) name.now }
     {
-        self.graph.peer(id, name)
+        self.graph.peer_near(id, name, near)
     }
 
     /// Whether the node of that number is there, and its hook of that name has that link.

@@ -117,7 +117,7 @@ fn send<B: Node>(
 ) -> Result<(), NoMemory>
     ensures { OnOk result (sent.new.items ≡ sent.old.items ++ sent_by still.now.nodes (hook_at (node_in still.now.nodes at) name.now) packet.now) }
 {
-    let Some(hook) = still.hook(at, name) else {
+    let Some(hook) = still.hook_near(at, name, sent.len()) else {
         return Ok(());
     };
     if hook.joined && still.kind(hook.peer.node).is_some() {
