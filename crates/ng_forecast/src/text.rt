@@ -40,8 +40,7 @@ fn count_hook(hooks: &mut BTreeMap<Name, u64>, hook: &Name) -> Result<(), NoMemo
         → hook_count hooks.new name ≡ (if bytes_eq name hook.now then 1 else 0) + hook_count hooks.old name) }
     ensures names { OnOk result (keys hooks.new ≡ with_name hook.now (keys hooks.old)) }
 {
-    let count = hooks.get(hook).copied().unwrap_or(0);
-    hooks.insert(*hook, count + 1)?;
+    *hooks.entry(*hook)?.or_insert(0) += 1;
     Ok(())
 }
 
