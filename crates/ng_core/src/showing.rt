@@ -1,5 +1,5 @@
 // What a core shows.
-ghost use Rattle.std.specs.Prelude.{◌≡◌, ◌<◌, length};
+ghost use Rattle.std.specs.Prelude.{◌≡◌, ◌<◌, ◌==◌, length};
 ghost use Rattle.ng_machine.specs.Change.{port_at};
 ghost use Rattle.ng_machine.specs.Totals.{port_totals_of, totals_of};
 ghost use Rattle.ng_machine.specs.LowRun.{IsModest};
@@ -46,6 +46,13 @@ impl<B: Node> Core<B> {
         ensures { result ≡ (world_of (story self.now)).fed }
     {
         self.parts.state.pending.tally.fed
+    }
+
+    /// Whether nothing is pending.
+    pub fn is_quiet(&self) -> bool
+        ensures { result ≡ (length (world_of (story self.now)).pending == 0) }
+    {
+        self.parts.state.pending.tally.pending == 0
     }
 
     /// What was told, in order.

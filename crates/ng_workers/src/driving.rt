@@ -7,6 +7,7 @@ ghost use Rattle.ng_workers.specs.Hands.{Brings, Drove, Takes};
 ghost use Rattle.ng_workers.specs.Passes.{DroveStep, IsOf, Leaves, desk, pass_of};
 
 use crate::attending::attend;
+use crate::feeder::{Feeder, Stage};
 use crate::feeding::lead;
 use crate::next::Next;
 use crate::pool::Unfed;
@@ -27,21 +28,21 @@ fn hold<R: Wait, B: Node>(
     alloc: Global,
     turn: &Turn<Core<B>>,
     pass: Pass<Core<B>>,
-    unfed: &mut Unfed,
+    feeder: &mut Feeder,
     done: Option<Done<B>>,
 ) -> (Pass<Core<B>>, Next<Work<B>>)
     requires turn { IsOf turn.now pass }
     requires seat { seat_of pass ≡ 0 }
-    requires fits { IsOpenFor unfed.old (desk pass) }
+    requires fits { IsOpenFor feeder.old.unfed (desk pass) }
     requires stays { (desk pass).gave_up ≡ false }
     requires brings { Brings B.state done (desk pass) }
     ensures turn { IsOf turn.now result.0 }
     ensures seat { seat_of result.0 ≡ 0 }
     ensures takes { Takes B.state result.1 (desk result.0) }
-    ensures drove { Drove result.1 (desk pass) (desk result.0) unfed.old unfed.new }
+    ensures drove { Drove result.1 (desk pass) (desk result.0) feeder.old.unfed feeder.new.unfed }
 {
     let mut held = turn.take(rt, pass);
-    let (next, left) = lead(alloc, held.value_mut(), unfed, done);
+    let (next, left) = lead(alloc, held.value_mut(), feeder, done);
     let pass = turn.put(rt, held);
     drop(left);
     (pass, next)
@@ -54,7 +55,7 @@ fn step<R: Wait, B: Node, G: Gate>(
     alloc: Global,
     turn: &Turn<Core<B>>,
     pass: Pass<Core<B>>,
-    unfed: &mut Unfed,
+    feeder: &mut Feeder,
     gate: &G,
     done: Option<Done<B>>,
     idle: &mut Backoff,
@@ -62,15 +63,15 @@ fn step<R: Wait, B: Node, G: Gate>(
     requires turn { IsOf turn.now pass }
     requires seat { seat_of pass ≡ 0 }
     requires some { 0 < (desk pass).seats }
-    requires fits { IsOpenFor unfed.old (desk pass) }
+    requires fits { IsOpenFor feeder.old.unfed (desk pass) }
     requires stays { (desk pass).gave_up ≡ false }
     requires brings { Brings B.state done (desk pass) }
     ensures turn { IsOf turn.now (pass_of result) }
     ensures seat { seat_of (pass_of result) ≡ 0 }
     ensures leaves { Leaves B.state result }
-    ensures drove { DroveStep (desk pass) unfed.old unfed.new result }
+    ensures drove { DroveStep (desk pass) feeder.old.unfed feeder.new.unfed result }
 {
-    let (pass, next) = hold(rt, alloc, turn, pass, unfed, done);
+    let (pass, next) = hold(rt, alloc, turn, pass, feeder, done);
     match next {
         Next::Taken(taken) => {
             *idle = Backoff::new();
@@ -86,7 +87,8 @@ fn step<R: Wait, B: Node, G: Gate>(
 
 /// Feeds the inputs in order, as the seat 0, and takes items, works on them and applies them as a worker does, until nothing is
 /// left or the limit of applied items is reached, and closes the core; or until memory runs out. In each holding every input
-/// that may be fed is fed before an item is taken. Between a take and its work the gate is passed. Waits for its turns, and
+/// that may be fed is fed before an item is taken; but the first packet or tick is fed only where nothing is pending, so that
+/// the set-up is done before the traffic begins. Between a take and its work the gate is passed. Waits for its turns, and
 /// while there is nothing to do.
 ///
 /// The pass that comes back is of the seat 0: some of the inputs were fed in order, and the core is closed with the number of
@@ -108,11 +110,15 @@ pub fn drive<R: Wait, B: Node, G: Gate>(
     ensures drove { DroveOn (desk pass) (desk result) inputs.items }
     ensures over { IsOver (desk result) }
 {
-    let mut unfed = Unfed::new(inputs);
+    let unfed = Unfed::new(inputs);
+    let mut feeder = Feeder {
+        unfed,
+        stage: Stage::SetUp,
+    };
     let mut done = None;
     let mut idle = Backoff::new();
     for _ in rt.forever() {
-        match step(rt, alloc, turn, pass, &mut unfed, gate, done, &mut idle) {
+        match step(rt, alloc, turn, pass, &mut feeder, gate, done, &mut idle) {
             Step::Goes(next, brings) => {
                 pass = next;
                 done = brings;

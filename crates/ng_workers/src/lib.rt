@@ -5,6 +5,7 @@
 
 mod attending;
 mod driving;
+mod feeder;
 mod feeding;
 mod holding;
 mod laws;

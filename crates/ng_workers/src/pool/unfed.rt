@@ -1,7 +1,7 @@
 // The inputs that are not fed yet.
 ghost use Rattle.std.specs.Prelude.{◌≡◌, ◌∷◌, false, true, length, IfOk, OnErr};
 ghost use Rattle.ng_machine.specs.Refusal.{feed_refusal};
-ghost use Rattle.ng_workers.specs.pool.Feeding.{IsFed, IsUnfed};
+ghost use Rattle.ng_workers.specs.pool.Feeding.{IsFed, IsUnfed, begins_with_traffic, is_traffic};
 ghost use Rattle.ng_core.specs.CoreStory.{story};
 ghost use Rattle.ng_machine.specs.story.Desks.{Others, story_job};
 ghost use Rattle.ng_machine.specs.story.Story.{AreFitFor, has_ended, world_of};
@@ -12,6 +12,16 @@ use ng_machine::Input;
 use ng_plan::node::Node;
 use std::alloc::Global;
 use std::marker::Model;
+
+// Whether an input is a packet or a tick, and no command.
+fn is_traffic(input: &Input) -> bool
+    ensures { result ≡ is_traffic input.now }
+{
+    match input {
+        Input::Packet { .. } | Input::Tick { .. } => true,
+        Input::Command(_) | Input::Late(_) => false,
+    }
+}
 
 /// Inputs in their order, of which the next can be had and put back at once. They are kept the last one first.
 #[derive(Drop)]
@@ -42,6 +52,16 @@ impl Unfed {
         ensures { result ≡ length self.now }
     {
         self.backwards.len()
+    }
+
+    /// Whether a packet or a tick is next.
+    pub fn is_traffic_next(&self) -> bool
+        ensures { result ≡ begins_with_traffic self.now }
+    {
+        match self.backwards.last() {
+            Some(input) => is_traffic(input),
+            None => false,
+        }
     }
 
     /// The inputs, moved.

@@ -26,10 +26,10 @@ loop-preserved g c = (
   c.in-Goes.ensures.seat,
   c.in-Goes.ensures.leaves.0,
   c.in-Goes.ensures.leaves.1,
-  drives_then (desk c.args.pass) (desk c.loop.pass) (desk c.in-Goes.next) c.args.inputs.items c.loop.unfed c.step.new.unfed None c.loop.invariant.6 c.in-Goes.ensures.drove.0,
+  drives_then (desk c.args.pass) (desk c.loop.pass) (desk c.in-Goes.next) c.args.inputs.items c.loop.feeder.unfed c.step.new.feeder.unfed None c.loop.invariant.6 c.in-Goes.ensures.drove.0,
   c.in-Goes.ensures.drove.1,
 )
 
 pub returns-in-Ends-clause-drove : goal.returns-in-Ends-clause-drove
 returns-in-Ends-clause-drove g c =
-    drove_after (desk c.args.pass) (desk c.loop.pass) (desk c.in-Ends.last) c.args.inputs.items c.loop.unfed c.loop.invariant.6 c.in-Ends.ensures.drove
+    drove_after (desk c.args.pass) (desk c.loop.pass) (desk c.in-Ends.last) c.args.inputs.items c.loop.feeder.unfed c.loop.invariant.6 c.in-Ends.ensures.drove

@@ -10,4 +10,4 @@ abbrev pub invariant-loop : goal.invariant-loop
 invariant-loop g l =
     (goal.iterator-loop g).can_next l.iterator' × (goal.iterator-loop g).is_finite l.iterator'
     × IsOf l.turn l.pass × (seat_of l.pass ≡ 0) × ((desk l.pass).gave_up ≡ false) × Brings g.B.Node.state l.done (desk l.pass)
-    × Drives (desk l.fn.pass) (desk l.pass) l.fn.inputs.items l.unfed None × IsOpenFor l.unfed (desk l.pass)
+    × Drives (desk l.fn.pass) (desk l.pass) l.fn.inputs.items l.feeder.unfed None × IsOpenFor l.feeder.unfed (desk l.pass)

@@ -5,16 +5,16 @@ use Rattle.ng_workers.proofs.Driven.{drives_none, drives_then}
 use Rattle.ng_workers.proofs.feeding.feed_all.Goals as goal
 
 pub loop-init : goal.loop-init
-loop-init g c = (drives_none (core_desk c.args.core.now 0) c.args.unfed.now c.requires.fits, c.requires.fits, c.requires.running, refl, refl, λ other else. refl)
+loop-init g c = (drives_none (core_desk c.args.core.now 0) c.args.feeder.now.unfed c.requires.fits, c.requires.fits, c.requires.running, refl, refl, λ other else. refl)
 
 pub returns-then-not-branch-clause-drives : goal.returns-then-not-branch-clause-drives
 returns-then-not-branch-clause-drives g c =
-    drives_then (core_desk c.args.core.now 0) (core_desk c.loop.core 0) (core_desk c.feed_one.new.core 0) c.args.unfed.now c.loop.unfed c.feed_one.new.unfed None
+    drives_then (core_desk c.args.core.now 0) (core_desk c.loop.core 0) (core_desk c.feed_one.new.core 0) c.args.feeder.now.unfed c.loop.feeder.unfed c.feed_one.new.feeder.unfed None
     c.loop.invariant.0 c.in_ok-feed_one.ensures.drives
 
 pub loop-preserved : goal.loop-preserved
 loop-preserved g c = (
-  drives_then (core_desk c.args.core.now 0) (core_desk c.loop.core 0) (core_desk c.feed_one.new.core 0) c.args.unfed.now c.loop.unfed c.feed_one.new.unfed None
+  drives_then (core_desk c.args.core.now 0) (core_desk c.loop.core 0) (core_desk c.feed_one.new.core 0) c.args.feeder.now.unfed c.loop.feeder.unfed c.feed_one.new.feeder.unfed None
       c.loop.invariant.0 c.in_ok-feed_one.ensures.drives,
   c.in_ok-feed_one.ensures.fits,
   c.in_ok-feed_one.ensures.running,
