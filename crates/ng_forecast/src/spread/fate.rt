@@ -1,12 +1,12 @@
 // What becomes of a packet at the node that it comes to.
-ghost use Rattle.std.specs.Prelude.{◌≡◌, ◌++◌, Some, IfOk, OnOk, IfSome, IfNone};
+ghost use Rattle.std.specs.Prelude.{◌≡◌, ◌++◌, Some, is_some, IfOk, OnOk, IfSome, IfNone};
 ghost use Rattle.ng_machine.specs.Effect.{door_name, is_hook_gone};
 ghost use Rattle.ng_machine.specs.Spread.{Vanishes, body_of, fate, is_followed, leaving, place_of, sent_by, sent_on};
-ghost use Rattle.ng_machine.specs.World.{NodeRecord, hook_at, node_in};
+ghost use Rattle.ng_machine.specs.World.{NodeRecord, hook_at, linked_hook, node_in};
 ghost use Rattle.ng_forecast.specs.spread.Following.{AreExits, ArrivesAt, IsExit, fate_of};
 
 use crate::spread::Flight;
-use ng_base::{Kind, Name, NoMemory, NodeId, Packet};
+use ng_base::{Kind, LinkId, Name, NoMemory, NodeId, Packet};
 use ng_core::Still;
 use ng_machine::{Door, Exit, Leaves, Place, Sends};
 use ng_plan::eval;
@@ -51,6 +51,24 @@ fn is_followed(kind: Kind) -> bool
     }
 }
 
+// Whether the node's hook of that name is there, with that link. It is looked for at a place first.
+fn has_link<B: Node>(
+    still: &Still<'_, B>,
+    id: NodeId,
+    name: &Name,
+    link: LinkId,
+    near: usize,
+) -> bool
+    ensures { (node : NodeRecord) → node_in still.now.nodes id ≡ Some node → result ≡ is_some (linked_hook node name.now link) }
+{
+    if let Some(hook) = still.hook_near(id, name, near) {
+        if hook.link.0 == link.0 {
+            return true;
+        }
+    }
+    still.has_link(id, name, link)
+}
+
 // Whether the hook that the packet comes by isn't there any more, or has another link.
 fn is_hook_gone<B: Node>(still: &Still<'_, B>, flight: &Flight) -> bool
     ensures { (node : NodeRecord) → node_in still.now.nodes flight.now.to ≡ Some node → result ≡ is_hook_gone (Some node) (body_of flight.now) }
@@ -58,7 +76,7 @@ fn is_hook_gone<B: Node>(still: &Still<'_, B>, flight: &Flight) -> bool
     match (&flight.door, flight.link) {
         (Door::Wire, _) => false,
         (Door::Hook(_), None) => true,
-        (Door::Hook(hook), Some(link)) => !still.has_link(flight.to, hook, link),
+        (Door::Hook(hook), Some(link)) => !has_link(still, flight.to, hook, link, flight.near),
     }
 }
 
@@ -126,6 +144,7 @@ fn send<B: Node>(
             door: Door::Hook(hook.peer.hook),
             link: Some(hook.link),
             packet: packet.again()?,
+            near: sent.len(),
         })?;
     }
     Ok(())

@@ -14,6 +14,8 @@ pub struct Flight {
     pub(super) door: Door,
     pub(super) link: Option<LinkId>,
     pub(super) packet: Packet,
+    // Where its hook is looked for first, among the hooks of the node that it comes to.
+    pub(super) near: usize,
 }
 
 impl Model for Flight {
@@ -34,6 +36,7 @@ impl Flight {
             door: Door::Wire,
             link: None,
             packet,
+            near: 0,
         }
     }
 }
