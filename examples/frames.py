@@ -21,7 +21,7 @@ def frame(to, source, ethertype, payload=b""):
 
 
 def tagged(inner, vlan, kind=0x8100, priority=0):
-    """The frame with a tag behind its addresses (IEEE 802.1Q; kind 0x88a8 is that of IEEE 802.1ad)."""
+    """The frame with a tag after its addresses (IEEE 802.1Q; kind 0x88a8 is that of IEEE 802.1ad)."""
     return inner[:12] + struct.pack(">HH", kind, priority << 13 | vlan) + inner[12:]
 
 
