@@ -2,6 +2,7 @@
 use Rattle.std.specs.Prelude.{ℕ, Bool, ◌&&◌, if◌then◌else◌, List, [], ◌∷◌, Option, Some, None}
 use Rattle.ng_args.specs.declared.port.PortWord.{PortWord}
 use Rattle.ng_args.specs.declared.port.PortForm.TheVariants.{InAlone}
+use Rattle.ng_args.specs.declared.run.TheConstants.{MAX_BUDGET, MAX_WORKERS}
 use Rattle.ng_args.specs.declared.words.ReplayWords.{ReplayWords}
 use Rattle.ng_decimal.specs.Decimal.{number_from}
 use Rattle.ng_args.specs.Names.{node_name, file_name}
@@ -17,7 +18,7 @@ replay_said _ _ _ _ _ _ = None
 -- what the words say, each by itself
 abbrev pub replay_parts : List (List ℕ) → Option ReplayWords
 replay_parts (budget ∷ workers ∷ own ∷ journal ∷ script ∷ ports) = replay_said
-    (number_from 1 10000000 budget) (number_from 0 16 workers) (node_name own) (file_name journal) (file_name script) (ports_of InAlone ports)
+    (number_from 1 MAX_BUDGET budget) (number_from 0 MAX_WORKERS workers) (node_name own) (file_name journal) (file_name script) (ports_of InAlone ports)
 replay_parts _ = None
 
 -- names of nodes differ, and the journal is none of the files beside it

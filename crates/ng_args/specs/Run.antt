@@ -1,6 +1,7 @@
 -- The words of a run: `[-w WORKERS] [-b BUDGET] [-n NAME] [-j JOURNAL] SCRIPT [PORT=IN,OUT ..]`, or `-g N` and no SCRIPT
 -- and no ports.
 use Rattle.std.specs.Prelude.{ℕ, Bool, ◌&&◌, if◌then◌else◌, List, [], ◌∷◌, ◌++◌, codes, map, Option, Some, None}
+use Rattle.ng_args.specs.declared.run.TheConstants.{DEFAULT_BUDGET, MAX_BUDGET, MAX_PACKETS, MAX_WORKERS}
 use Rattle.ng_args.specs.declared.port.PortWord.{PortWord}
 use Rattle.ng_args.specs.declared.port.PortForm.TheVariants.{InAndOut}
 use Rattle.ng_args.specs.declared.words.Source.{Source}
@@ -38,7 +39,7 @@ made_of (Some packets) (word ∷ words) = None
 -- with `-g` a run's inputs are made, and no other word stands there
 abbrev pub source_by : Option (List ℕ) → List (List ℕ) → Option Source
 source_by None words = from_files words
-source_by (Some value) words = made_of (number_from 1 100000 value) words
+source_by (Some value) words = made_of (number_from 1 MAX_PACKETS value) words
 
 abbrev pub settle : Option ℕ → Option ℕ → Option (List ℕ) → Option (Option (List ℕ)) → Option Source → Option Words
 settle (Some workers) (Some budget) (Some own) (Some journal) (Some source) =
@@ -48,8 +49,8 @@ settle _ _ _ _ _ = None
 -- what the words say, each by itself
 abbrev pub said : Cut → Option Words
 said cut = settle
-    (unless_given 0 (number_from 0 16) (value_of (codes "-w") cut.settings))
-    (unless_given 1000000 (number_from 1 10000000) (value_of (codes "-b") cut.settings))
+    (unless_given 0 (number_from 0 MAX_WORKERS) (value_of (codes "-w") cut.settings))
+    (unless_given DEFAULT_BUDGET (number_from 1 MAX_BUDGET) (value_of (codes "-b") cut.settings))
     (unless_given (codes "ngctl") node_name (value_of (codes "-n") cut.settings))
     (unless_given None journal_name (value_of (codes "-j") cut.settings))
     (source_by (value_of (codes "-g") cut.settings) cut.others)

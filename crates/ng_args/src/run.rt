@@ -28,7 +28,7 @@ const DEFAULT_BUDGET: u64 = 1_000_000;
 const MAX_PACKETS: u64 = 100_000;
 
 fn read_workers(value: Option<&str>) -> Option<u32>
-    ensures { result ≡ unless_given 0 (number_from 0 16) (option_copied value.entry) }
+    ensures { result ≡ unless_given 0 (number_from 0 MAX_WORKERS) (option_copied value.entry) }
 {
     match value {
         None => Some(0),
@@ -40,7 +40,7 @@ fn read_workers(value: Option<&str>) -> Option<u32>
 }
 
 fn read_budget(value: Option<&str>) -> Option<u64>
-    ensures { result ≡ unless_given 1000000 (number_from 1 10000000) (option_copied value.entry) }
+    ensures { result ≡ unless_given DEFAULT_BUDGET (number_from 1 MAX_BUDGET) (option_copied value.entry) }
 {
     match value {
         None => Some(DEFAULT_BUDGET),

@@ -6,7 +6,7 @@ ghost use Rattle.ng_pcap.specs.Reading.{capture_of};
 ghost use Rattle.ng_pcap.specs.Writing.{IsWritable};
 ghost use Rattle.ng_args.specs.declared.words.Source.TheVariants.{FromFiles as from_files};
 ghost use Rattle.ng_call.specs.Found.{IsRead};
-ghost use Rattle.ng_call.specs.Steps.{script_steps, port_steps};
+ghost use Rattle.ng_call.specs.Steps.{script_steps, port_steps, most_bytes, most_packets};
 ghost use Rattle.ng_call.specs.Call.{names};
 ghost use Rattle.ng_call.specs.Parts.{of_files, Stops, ScriptPasses, PortsPass, PortsStop, AllPass, AllStop};
 
@@ -63,14 +63,14 @@ fn read_port_file<F: Files>(
     name: &str,
     files: &mut F,
 ) -> Result<(Capture, u64), Fault>
-    requires bytes { bytes ≤ 268435456 }
-    requires packets { packets ≤ 1000000 }
+    requires bytes { bytes ≤ most_bytes }
+    requires packets { packets ≤ most_packets }
     ensures ok { IfOk result (λ read. (held : List ℕ) × IsRead (F.contents files.old name.now) held
         × (first_fault (F.contents files.old) (port_steps names port bytes packets name.now held) ≡ None)
         × (capture_of held ≡ Ok read.0) × (read.1 ≡ length held)) }
     ensures writable { IfOk result (λ read. Every IsWritable read.0.kept) }
-    ensures within_bytes { IfOk result (λ read. bytes + read.1 ≤ 268435456) }
-    ensures within_packets { IfOk result (λ read. packets + length read.0.kept ≤ 1000000) }
+    ensures within_bytes { IfOk result (λ read. bytes + read.1 ≤ most_bytes) }
+    ensures within_packets { IfOk result (λ read. packets + length read.0.kept ≤ most_packets) }
     ensures err { IfErr result (λ fault. (held : List ℕ) × IsRead (F.contents files.old name.now) held
         × Stops (of_files (F.contents files.old) (F.contents files.new) (F.faults files.old) (F.faults files.new)) (port_steps names port bytes packets name.now held) fault) }
     ensures same { F.contents files.new ≡ F.contents files.old }
@@ -115,8 +115,8 @@ pub fn read_ports<F: Files>(
     files: &mut F,
 ) -> Result<(), Fault>
     requires few { port + length ports.now ≤ 64 }
-    requires bytes { bytes ≤ 268435456 }
-    requires packets { packets ≤ 1000000 }
+    requires bytes { bytes ≤ most_bytes }
+    requires packets { packets ≤ most_packets }
     ensures ok { OnOk result (PortsPass (F.contents files.old) port bytes packets ports.now captures.old.items captures.new.items) }
     ensures err { IfErr result (λ fault. PortsStop (of_files (F.contents files.old) (F.contents files.new) (F.faults files.old) (F.faults files.new)) port bytes packets ports.now fault) }
     ensures same { F.contents files.new ≡ F.contents files.old }

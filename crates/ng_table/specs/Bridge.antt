@@ -1,6 +1,7 @@
 -- ng_bridge(4).
 use Rattle.std.specs.Prelude.{List, [], ◌∷◌, ◌+◌, codes}
 use Rattle.ng_shape.specs.Shape.{Shape, Ether}
+use Rattle.ng_machine.specs.kinds.Bridge.{most_hosts}
 use Rattle.ng_table.specs.Message.{Message, message, read_only, has_answer, none, u8, u16, u32, s32, structure, counted_by, counters}
 
 -- struct ng_bridge_config
@@ -21,7 +22,7 @@ bridge_host = structure ((codes "addr", Ether) ∷ (codes "hook", s32) ∷ (code
 
 -- struct ng_bridge_host_ary
 abbrev pub bridge_table : Shape
-bridge_table = structure ((codes "numHosts", u32) ∷ (codes "hosts", counted_by (codes "numHosts") 4096 bridge_host) ∷ [])
+bridge_table = structure ((codes "numHosts", u32) ∷ (codes "hosts", counted_by (codes "numHosts") most_hosts bridge_host) ∷ [])
 
 -- statistics are asked of a link by its number
 abbrev pub bridge_messages : List Message

@@ -1,6 +1,7 @@
 -- ng_etf(4), with counters of 64 bits and a table that can be read: the profile of it that this project has.
 use Rattle.std.specs.Prelude.{List, [], ◌∷◌, ◌+◌, codes}
 use Rattle.ng_shape.specs.Shape.{Shape}
+use Rattle.ng_machine.specs.kinds.Etf.{most_filters}
 use Rattle.ng_table.specs.Message.{Message, message, read_only, has_answer, none, u16, u32, s32, structure, counted_by, counters}
 
 -- struct ng_etffilter
@@ -12,7 +13,7 @@ abbrev pub etf_status : Shape
 etf_status = counters (codes "inFrames" ∷ codes "outFrames" ∷ [])
 
 abbrev pub etf_table : Shape
-etf_table = structure ((codes "n", u32) ∷ (codes "filter", counted_by (codes "n") 4096 etf_filter) ∷ [])
+etf_table = structure ((codes "n", u32) ∷ (codes "filter", counted_by (codes "n") most_filters etf_filter) ∷ [])
 
 abbrev pub etf_messages : List Message
 etf_messages =

@@ -1,5 +1,5 @@
 -- ng_vlan(4).
-use Rattle.std.specs.Prelude.{List, [], ◌∷◌, ◌+◌, codes}
+use Rattle.std.specs.Prelude.{ℕ, List, [], ◌∷◌, ◌+◌, codes}
 use Rattle.ng_shape.specs.Shape.{Shape}
 use Rattle.ng_table.specs.Message.{Message, message, read_only, has_answer, none, u8, u16, u32, x32, s32, structure, counted_by}
 
@@ -7,9 +7,13 @@ use Rattle.ng_table.specs.Message.{Message, message, read_only, has_answer, none
 abbrev pub vlan_filter : Shape
 vlan_filter = structure ((codes "hook", s32) ∷ (codes "vlan", u16) ∷ (codes "pcp", u8) ∷ (codes "cfi", u8) ∷ [])
 
+-- a filter for each number of a VLAN, which has twelve bits
+abbrev pub most_vlans : ℕ
+most_vlans = 4096
+
 -- struct ng_vlan_table
 abbrev pub vlan_table : Shape
-vlan_table = structure ((codes "n", u32) ∷ (codes "filter", counted_by (codes "n") 4096 vlan_filter) ∷ [])
+vlan_table = structure ((codes "n", u32) ∷ (codes "filter", counted_by (codes "n") most_vlans vlan_filter) ∷ [])
 
 -- A filter is deleted by the name of its hook. The last two, of the tag's type, are this project's own.
 abbrev pub vlan_messages : List Message

@@ -1,5 +1,6 @@
 // The bytes of a packet, in rows of sixteen.
 ghost use Rattle.std.specs.Prelude.{◌≡◌, ◌+◌, ◌*◌, ◌^◌, ◌<◌, ◌≤◌, ◌++◌, length, IfOk, OnOk};
+ghost use Rattle.ng_machine.specs.Bounds.{Fits};
 ghost use Rattle.ngctl_print.specs.Dump.{hex_digit, offset_digits, byte_digits, dump_row, row_text, dump};
 ghost use Rattle.ngctl_print.specs.Prints.{Prints};
 
@@ -64,7 +65,7 @@ fn print_row<O: Sink>(
     row: usize,
     out: &mut O,
 ) -> Result<(), PrintStop>
-    requires short { length packet.now ≤ 262144 }
+    requires short { Fits packet.now }
     requires inside { 16 * row < length packet.now }
     ensures { Prints (O.contents out.old) (O.contents out.new) (O.faults out.old) (O.faults out.new) result (row_text packet.now row) }
 {
@@ -83,7 +84,7 @@ pub(crate) fn print_dump<O: Sink>(
     packet: &[u8],
     out: &mut O,
 ) -> Result<(), PrintStop>
-    requires { length packet.now ≤ 262144 }
+    requires { Fits packet.now }
     ensures { Prints (O.contents out.old) (O.contents out.new) (O.faults out.old) (O.faults out.new) result (dump packet.now) }
 {
     for row in 0..packet.len().div_ceil(ROW) {

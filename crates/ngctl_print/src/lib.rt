@@ -1,5 +1,5 @@
-//! The text of a run, put into a sink line by line: a command's line, a refusal, a packet at the socket, the summary and the
-//! line of a port; the answers of `list`, `show` and `types`; and the captures that leave.
+//! The text of a run, put into a sink: a command's line, a refusal, a packet at the socket, the summary and the line of a
+//! port; the answers of `list`, `show` and `types`; and the captures that leave.
 #![tactic(auto)]
 
 mod dump;

@@ -1,5 +1,6 @@
 // What the one who gave the commands is told.
 ghost use Rattle.std.specs.Prelude.{◌≡◌, ◌≤◌, ◌++◌, length, IfOk, OnOk, string_bytes};
+ghost use Rattle.ng_machine.specs.Bounds.{Fits};
 ghost use Rattle.ngctl_print.specs.Prints.{Prints};
 ghost use Rattle.ngctl_print.specs.Text.{command_line, why_text, refused_line, frame_line, frame_text};
 
@@ -90,7 +91,7 @@ pub fn print_frame<O: Sink>(
     packet: &[u8],
     out: &mut O,
 ) -> Result<(), PrintStop>
-    requires { length packet.now ≤ 262144 }
+    requires { Fits packet.now }
     ensures { Prints (O.contents out.old) (O.contents out.new) (O.faults out.old) (O.faults out.new) result (frame_text hook.now packet.now) }
 {
     let head = frame_line(alloc, hook)?;

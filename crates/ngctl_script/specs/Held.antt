@@ -4,10 +4,11 @@ use Rattle.ng_machine.specs.declared.command.Command.{Command}
 use Rattle.ngctl_script.specs.declared.when.When.{When}
 use Rattle.ngctl_script.specs.declared.when.When.TheVariants.{First, After, Late}
 use Rattle.ngctl_script.specs.Forms.{what_of}
+use Rattle.ngctl_script.specs.Script.{most_commands, most_line}
 
 -- the command is that of its line, and the line isn't too long
 pub record IsOfLine (command : Command) : Type 0 where
-  pub short : length command.line ≤ 4096
+  pub short : length command.line ≤ most_line
   pub asked : command.what ≡ what_of command.line
 
 -- each is the command of its line, and they have the numbers `n`, `n + 1` and so on
@@ -31,6 +32,6 @@ AreInOrder last [] = Unit {0}
 AreInOrder last (timed ∷ others) = MayPrecede last timed.0 × AreInOrder timed.0 others
 
 pub record AreCommands (commands : List (When × Command)) : Type 0 where
-  pub few : length commands ≤ 4096
+  pub few : length commands ≤ most_commands
   pub each : AreFrom 1 commands
   pub ordered : AreInOrder First commands

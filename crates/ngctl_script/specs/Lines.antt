@@ -54,9 +54,12 @@ begins_with byte (b ∷ bytes) = b == byte
 abbrev pub is_padded : List ℕ → Bool
 is_padded text = begins_with 0x30 text && nat_lt 1 (length text)
 
+abbrev pub most_mark : ℕ
+most_mark = 1000000
+
 abbrev pub mark_of_number : Option ℕ → Option When
 mark_of_number None = None
-mark_of_number (Some n) = if nat_le n 1000000 then Some (After n) else None
+mark_of_number (Some n) = if nat_le n most_mark then Some (After n) else None
 
 -- the mark behind the `@`: `end`, or a number up to 1,000,000
 abbrev pub mark_of : List ℕ → Option When

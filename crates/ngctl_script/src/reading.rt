@@ -5,7 +5,7 @@ ghost use Rattle.ngctl_script.specs.declared.when.When.{When as Time};
 ghost use Rattle.ngctl_script.specs.Forms.{what_of as what_of_line};
 ghost use Rattle.ngctl_script.specs.Lines.{line_of as what_line};
 ghost use Rattle.ngctl_script.specs.Reading.{IsNextReading, before_of, joined, line_seen};
-ghost use Rattle.ngctl_script.specs.Script.{IsTold, command_of, fault_of, may_follow as mark_may_follow, past, until_quit};
+ghost use Rattle.ngctl_script.specs.Script.{IsTold, command_of, fault_of, most_commands, may_follow as mark_may_follow, past, until_quit};
 ghost use Rattle.ngctl_script.specs.Lines.{Command as CommandLine};
 
 use crate::forms::{copy, form_of};
@@ -92,7 +92,7 @@ impl Reading {
 
     /// With one command more.
     fn with_command(self, alloc: Global, line: &[u8]) -> Result<Reading, NoMemory>
-        requires { self.count < 4096 }
+        requires { self.count < most_commands }
         ensures number { IfOk result (λ read. read.number ≡ self.number) }
         ensures before { IfOk result (λ read. before_of read ≡ past (before_of self) (CommandLine line.now)) }
         ensures commands { IfOk result (λ read. (rest : List (Time × CommandOfLine)) → joined read rest

@@ -3,7 +3,7 @@ ghost use Rattle.std.specs.Prelude.{◌≡◌, ◌++◌, ◌≤◌, [], length, 
 ghost use Rattle.std.specs.List.{filter, flat_map, insert};
 ghost use Rattle.std.specs.Option.{option_copied, option_map};
 ghost use Rattle.byteorder.specs.Endian.{big_number};
-ghost use Rattle.ng_machine.specs.kinds.Bridge.{age_host, elsewhere, host_bytes, host_of, host_way, new_host, put_host, rest_host, see_host};
+ghost use Rattle.ng_machine.specs.kinds.Bridge.{age_host, elsewhere, host_bytes, host_of, host_way, most_hosts, new_host, put_host, rest_host, see_host};
 ghost use Rattle.std.specs.Prelude.{◌+◌, ◌^◌};
 ghost use Rattle.ng_switch_types.specs.bridge.Hosts.{address_of};
 ghost use Rattle.ng_sorted.specs.Order.{IsInOrder};
@@ -51,7 +51,7 @@ impl Hosts {
     /// How many there are, at most 4,096.
     pub fn len(&self) -> usize
         ensures value { result ≡ length self.now }
-        ensures bound { result ≤ 4096 }
+        ensures bound { result ≤ most_hosts }
     {
         self.hosts.len()
     }
@@ -96,7 +96,7 @@ impl Hosts {
     /// `NoMemory` where memory ran out, and for nothing else; the hosts are then as before.
     pub fn learn(&mut self, addr: &[u8; 6], link: u8) -> Result<(), NoMemory>
         requires bound { link ≤ 32 }
-        requires room { host_of addr.now (map host_way self.old) ≡ None → length self.old < 4096 }
+        requires room { host_of addr.now (map host_way self.old) ≡ None → length self.old < most_hosts }
         ensures ok { OnOk result (self.new ≡ put_host (new_host addr.now link) self.old) }
         ensures err { OnErr result (self.new ≡ self.old) }
     {

@@ -1,4 +1,4 @@
-// Nodes, hooks and types, line by line.
+// Nodes, hooks and types, a row for each.
 ghost use Rattle.std.specs.Prelude.{◌≡◌, ◌≤◌, ◌+◌, ◌*◌, ◌++◌, length, OnOk};
 ghost use Rattle.ngctl_print.specs.listing.Lists.{node_names, node_id, node_hooks, node_line, list_head, list_text};
 ghost use Rattle.ngctl_print.specs.listing.Lists.{peer_columns, hook_line, hook_heads, hooks_text, show_text};
