@@ -8,6 +8,10 @@ use Rattle.ng_call.specs.Steps.{fault_in}
 abbrev pub IsCapture : List ℕ → Type 0
 IsCapture bytes = fault_in (capture_of bytes) ≡ None
 
+-- packets that are made
+abbrev pub most_made : ℕ
+most_made = 100000
+
 pub record MadeIsInForm : Type 0 where
   pub script : script_fault made_script ≡ None
-  pub captures : (packets : ℕ) → packets ≤ 100000 → All IsCapture (made_captures packets)
+  pub captures : (packets : ℕ) → packets ≤ most_made → All IsCapture (made_captures packets)

@@ -7,4 +7,4 @@ use Rattle.ng_replay.specs.Call.{run_of}
 -- those of the run that it is of are
 pub record InForm (words : ReplayWords) : Type 0 where
   pub of_run : run.InForm (run_of words)
-  pub workers : words.workers ≤ 16
+  pub workers : words.workers ≤ run.most_workers
