@@ -1,5 +1,5 @@
 -- The packets of captures come in their order, each by a port that has a capture.
-use Rattle.std.proofs.Common.{◌≡◌, ◌∙◌, ℕ, zero, suc, ◌+◌, ◌-◌, ◌<◌, ◌≤◌, Bool, true, false, nat_le, nat_lt, if◌then◌else◌, All, List, [], ◌∷◌, ◌++◌, length, map, refl, sym, ap, subst, arith, append-nil}
+use Rattle.std.proofs.Common.{◌≡◌, ◌∙◌, ℕ, zero, suc, ◌+◌, ◌-◌, ◌<◌, Bool, true, false, nat_le, nat_lt, if◌then◌else◌, All, List, [], ◌∷◌, ◌++◌, length, map, refl, sym, ap, subst, arith, append-nil}
 use Rattle.std.specs.declared.option.Option.{Option}
 use Rattle.std.specs.declared.option.Option.TheVariants.{None, Some}
 use Rattle.ng_base.specs.declared.ids.Stamp.{Stamp}
@@ -10,7 +10,7 @@ use Rattle.ng_machine.specs.declared.input.Input.TheVariants.{Command, Late, Pac
 use Rattle.ng_machine.specs.Feed.{later}
 use Rattle.ng_machine.specs.Words.{Every}
 use Rattle.ngctl_script.specs.declared.feed.arrival.Arrival.{Arrival}
-use Rattle.ngctl_script.specs.feed.Inputs.{arrivals_from, inputs_of, packet_inputs, seconds, tick_if, ticks}
+use Rattle.ngctl_script.specs.feed.Inputs.{arrivals_from, inputs_of, packet_inputs, seconds, ticks}
 use Rattle.ngctl_script.specs.feed.Merge.{Packets, earlier, merged, merged_in, next_from, packet_count, taken, without_next}
 use Rattle.ng_forecast.specs.Arrivals.{packets_among}
 

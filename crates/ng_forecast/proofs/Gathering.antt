@@ -1,5 +1,5 @@
 -- Packets are followed one after another.
-use Rattle.std.proofs.Common.{◌≡◌, ◌∙◌, ◌⊎◌, inl, inr, ℕ, zero, suc, ◌+◌, ◌<◌, ◌≤◌, Bool, true, false, cond, nat_lt, if◌then◌else◌, List, [], ◌∷◌, ◌++◌, length, map, drop, refl, sym, ap, subst, arith, append_assoc, append-nil}
+use Rattle.std.proofs.Common.{◌≡◌, ◌∙◌, ℕ, ◌+◌, ◌<◌, ◌≤◌, Bool, true, false, nat_lt, if◌then◌else◌, List, [], ◌∷◌, ◌++◌, length, drop, refl, sym, ap, subst, arith, append_assoc, append-nil}
 use Rattle.std.proofs.lemmas.Bool.Decides.{nat_tests}
 use Rattle.std.specs.declared.option.Option.{Option}
 use Rattle.std.specs.declared.option.Option.TheVariants.{None, Some}
@@ -9,7 +9,7 @@ use Rattle.ng_forecast.specs.spread.Met.{met_in}
 use Rattle.ng_forecast.specs.spread.Weight.{weight}
 use Rattle.ng_forecast.specs.declared.ended.ForecastFault.{ForecastFault}
 use Rattle.ng_forecast.specs.declared.ended.ForecastFault.TheVariants.{Wide, Undefined, Big}
-use Rattle.ng_forecast.specs.Packets.{Fails, Passes, Tally, fault_at, fault_from, fault_if, most_met, most_weight, no_tally, packet_fault, tally}
+use Rattle.ng_forecast.specs.Packets.{Fails, Passes, Tally, fault_at, fault_from, fault_if, most_met, most_weight, packet_fault, tally}
 
 -- what leaves of one packet stands behind what left before
 record Splits (old new : Spread) (spread : Option Spread) : Type 0 where

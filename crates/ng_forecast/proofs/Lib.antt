@@ -5,6 +5,7 @@ pub mod Converted
 pub mod Reading
 pub mod Ending
 pub mod Sorts
+pub mod ByHook
 pub mod Counting
 pub mod Behaves
 pub mod SameLength

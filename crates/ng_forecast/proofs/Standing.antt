@@ -1,5 +1,5 @@
 -- The commands in front of every mark may be run.
-use Rattle.std.proofs.Common.{◌≡◌, ◌∙◌, ℕ, ◌+◌, ◌≤◌, Bool, true, false, ◌&&◌, nat_le, if◌then◌else◌, List, [], ◌∷◌, ◌++◌, length, map, refl, sym, ap, subst, arith}
+use Rattle.std.proofs.Common.{◌≡◌, ℕ, ◌≤◌, Bool, true, false, ◌&&◌, nat_le, if◌then◌else◌, List, [], ◌∷◌, ◌++◌, length, map, refl, subst, arith}
 use Rattle.std.specs.declared.option.Option.{Option}
 use Rattle.std.specs.declared.option.Option.TheVariants.{None, Some}
 use Rattle.std.proofs.lemmas.Bool.{leb-true}
@@ -7,10 +7,10 @@ use Rattle.std.proofs.lemmas.List.{length-map}
 use Rattle.ng_base.specs.declared.kind.Kind.{Kind}
 use Rattle.ng_machine.specs.declared.input.Input.{Input}
 use Rattle.ng_machine.specs.KnownRun.{FitsInput}
-use Rattle.ng_machine.specs.LowRun.{IsModest, most_commands}
+use Rattle.ng_machine.specs.LowRun.{IsModest}
 use Rattle.ng_machine.specs.Refusal.{is_command}
 use Rattle.ng_machine.specs.Words.{Every, times}
-use Rattle.ngctl_script.specs.feed.Inputs.{Timed, commands_that, is_first, inputs_of, is_after, late_commands, packet_inputs}
+use Rattle.ngctl_script.specs.feed.Inputs.{Timed, commands_that, is_first, is_after, late_commands, packet_inputs}
 use Rattle.ng_laws.specs.printable.Scripts.{AreFitFor, InputsAreFit}
 use Rattle.ng_args.specs.declared.words.ForecastWords.{ForecastWords}
 use Rattle.ng_args.specs.Forecast.{forecast_parts, forecast_words_of, if_forecast_words}

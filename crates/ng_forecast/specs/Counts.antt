@@ -1,24 +1,20 @@
 -- How many packets of a bag are at each place, as they are counted.
-use Rattle.std.specs.Prelude.{◌≡◌, ℕ, ◌+◌, ◌<◌, ◌^◌, List, if◌then◌else◌, slice_index, unwrap_or}
-use Rattle.std.specs.BTreeMap.{BTreeMap, get, keys}
-use Rattle.std.specs.Cmp.Lexicographic.{slice_cmp}
-use Rattle.std.specs.Ordering.{nat_cmp}
+use Rattle.std.specs.Prelude.{◌≡◌, ℕ, ◌+◌, ◌<◌, ◌^◌, List, if◌then◌else◌, slice_index}
+use Rattle.std.specs.BTreeMap.{keys}
 use Rattle.ng_machine.specs.declared.place.Place.{Place}
 use Rattle.ng_machine.specs.declared.place.Place.TheVariants.{Wire, Host, Reader}
 use Rattle.ng_forecast.specs.declared.text.Counts.{Counts}
+use Rattle.ng_forecast.specs.Hooks.{AreKept, hook_count}
 use Rattle.ng_machine.specs.Spread.{Spread, same_place}
 use Rattle.ng_forecast.specs.Text.{count_at, reader_hooks, with_place}
-
--- how many packets were counted for a hook
-abbrev pub hook_count : BTreeMap (List ℕ) ℕ → List ℕ → ℕ
-hook_count hooks name = unwrap_or (get (slice_cmp nat_cmp) hooks name) 0
 
 -- each count is that of the bag, and the hooks are its hooks, in order
 pub record AreCounts (counts : Counts) (bag : Spread) : Type 0 where
   pub left : (port : ℕ) → port < 64 → slice_index counts.left port ≡ count_at (Wire port) bag
   pub up : (port : ℕ) → port < 64 → slice_index counts.up port ≡ count_at (Host port) bag
   pub hooks : (name : List ℕ) → hook_count counts.hooks name ≡ count_at (Reader name) bag
-  pub names : keys counts.hooks ≡ reader_hooks bag
+  pub names : keys counts.hooks.places ≡ reader_hooks bag
+  pub kept : AreKept counts.hooks
 
 -- another packet is counted, at a place
 pub record CountsOne (place : Place) (old new : Counts) : Type 0 where
@@ -28,10 +24,12 @@ pub record CountsOne (place : Place) (old new : Counts) : Type 0 where
       → slice_index new.up port ≡ (if same_place (Host port) place then 1 else 0) + slice_index old.up port
   pub hooks : (name : List ℕ)
       → hook_count new.hooks name ≡ (if same_place (Reader name) place then 1 else 0) + hook_count old.hooks name
-  pub names : keys new.hooks ≡ with_place place (keys old.hooks)
+  pub names : keys new.hooks.places ≡ with_place place (keys old.hooks.places)
+  pub kept : AreKept new.hooks
 
 -- there is room for another packet
 pub record HaveRoom (counts : Counts) : Type 0 where
   pub left : (port : ℕ) → port < 64 → slice_index counts.left port + 1 < 2 ^ 64
   pub up : (port : ℕ) → port < 64 → slice_index counts.up port + 1 < 2 ^ 64
   pub hooks : (name : List ℕ) → hook_count counts.hooks name + 1 < 2 ^ 64
+  pub kept : AreKept counts.hooks

@@ -4,6 +4,7 @@ pub mod Moving
 pub mod Packets
 pub mod Steps
 pub mod Text
+pub mod Hooks
 pub mod Counts
 pub mod Call
 pub mod Ends

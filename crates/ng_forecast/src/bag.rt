@@ -1,6 +1,7 @@
 // Where the copies of all packets leave.
 ghost use Rattle.std.specs.Prelude.{◌≡◌, ◌≤◌, ◌+◌, ◌<◌, ◌^◌, nat_lt, if◌then◌else◌, All, map, Some, None, IfOk, OnOk, IfErr, ◌⊎◌};
 ghost use Rattle.ng_forecast.specs.spread.Weight.{weight_at, weight};
+ghost use Rattle.ng_machine.specs.Outcome.{nothing};
 ghost use Rattle.ng_machine.specs.Spread.{beside, spread_all, spread_in};
 ghost use Rattle.ng_forecast.specs.spread.Met.{met_in};
 ghost use Rattle.ng_forecast.specs.declared.ended.ForecastFault.TheVariants.{NoMemory as no_memory};
@@ -10,8 +11,9 @@ use crate::spread::{Flight, Followed, Trail, follow};
 use crate::{ForecastFault, Spread};
 use ng_base::{NoMemory, Packet, Sequence};
 use ng_core::Still;
-use ng_machine::Place;
+use ng_machine::{Outcome, Place};
 use ng_plan::node::Node;
+use ng_plan::nothing;
 use ngctl_script::feed::Arrival;
 use std::alloc::Global;
 
@@ -69,11 +71,14 @@ fn add_packet<B: Node>(
     arrival: &Arrival,
     packet: u64,
     weight: u64,
+    spare: &mut Outcome,
     trail: &mut Trail,
 ) -> Result<u64, ForecastFault>
+    requires blank { spare.old ≡ nothing }
     requires port { arrival.now.port < still.now.ports }
     requires light { weight ≤ most_weight }
     requires room { trail.old.room ≤ most_met }
+    ensures blank { OnOk result (spare.new ≡ nothing) }
     ensures passes { IfOk result (λ more. Passes packet weight trail.old.room (met_in still.now.nodes hops (flight_of arrival.now))
         (spread_in still.now.nodes hops (flight_of arrival.now)) more trail.new.room) }
     ensures bag { OnOk result (Some trail.new.bag.items ≡ beside (Some trail.old.bag.items) (spread_in still.now.nodes hops (flight_of arrival.now))) }
@@ -84,7 +89,7 @@ fn add_packet<B: Node>(
         return Err(ForecastFault::NoMemory);
     };
     let before = trail.bag.len();
-    match follow(alloc, still, hops, &flight, trail) {
+    match follow(alloc, still, hops, &flight, spare, trail) {
         Ok(Followed::Everywhere) => {}
         Ok(Followed::Nowhere) => return Err(ForecastFault::Undefined { packet }),
         Ok(Followed::TooWide) => return Err(ForecastFault::Wide { packet }),
@@ -115,10 +120,20 @@ pub(crate) fn gather<B: Node>(
         room: MOST_MET,
         bag: Vec::new(alloc),
     };
+    let mut spare = nothing(alloc);
     let mut weight = 0;
     for i in 0..arrivals.len() {
         let packet = i as u64 + 1;
-        match add_packet(alloc, still, hops, &arrivals[i], packet, weight, &mut trail) {
+        match add_packet(
+            alloc,
+            still,
+            hops,
+            &arrivals[i],
+            packet,
+            weight,
+            &mut spare,
+            &mut trail,
+        ) {
             Ok(more) => weight = more,
             Err(fault) => return Err(fault),
         }

@@ -4,6 +4,7 @@
 
 mod bag;
 mod ended;
+mod hooks;
 mod laws;
 mod line;
 mod read;

@@ -1,24 +1,24 @@
 // The text of a forecast.
-ghost use Rattle.std.specs.Prelude.{◌≡◌, ◌++◌, ◌<◌, ◌≤◌, ◌+◌, ◌^◌, ◌==◌, ℕ, List, [], map, length, slice_index, if◌then◌else◌, OnOk, IfOk};
+ghost use Rattle.std.specs.Prelude.{◌≡◌, ◌++◌, ◌<◌, ◌≤◌, ◌+◌, ◌^◌, ◌==◌, ℕ, [], map, length, slice_index, if◌then◌else◌, OnOk, IfOk};
 ghost use Rattle.std.specs.List.{flat_map};
-ghost use Rattle.std.specs.Str.{bytes_eq};
 ghost use Rattle.std.specs.BTreeMap.{keys};
 ghost use Rattle.ng_machine.specs.Spread.{Spread};
-ghost use Rattle.ng_forecast.specs.Counts.{AreCounts, CountsOne, HaveRoom, hook_count};
-ghost use Rattle.ng_forecast.specs.Text.{bag_text, hook_line, port_line, port_lines, with_name};
+ghost use Rattle.ng_forecast.specs.Counts.{AreCounts, CountsOne, HaveRoom};
+ghost use Rattle.ng_forecast.specs.Hooks.{hook_count};
+ghost use Rattle.ng_forecast.specs.Text.{bag_text, hook_line, port_line, port_lines};
 
+use crate::hooks::{HookCounts, count_hook, no_hooks};
 use ng_args::PortWord;
 use ng_base::{Name, NoMemory, Packet};
 use ng_machine::Place;
 use std::alloc::Global;
-use std::collections::BTreeMap;
 
 // How many packets leave by the wire of each port, go up to its host, and go to the reader by each hook.
 #[derive(Drop)]
 struct Counts {
     left: [u64; 64],
     up: [u64; 64],
-    hooks: BTreeMap<Name, u64>,
+    hooks: HookCounts,
 }
 
 // One more at a port, where it is one of these.
@@ -31,17 +31,6 @@ fn count_port(counts: &mut [u64; 64], port: u32)
     if port < 64 {
         counts[port] += 1;
     }
-}
-
-// One more for a hook.
-fn count_hook(hooks: &mut BTreeMap<Name, u64>, hook: &Name) -> Result<(), NoMemory>
-    requires { hook_count hooks.old hook.now + 1 < 2 ^ 64 }
-    ensures count { OnOk result ((name : List ℕ)
-        → hook_count hooks.new name ≡ (if bytes_eq name hook.now then 1 else 0) + hook_count hooks.old name) }
-    ensures names { OnOk result (keys hooks.new ≡ with_name hook.now (keys hooks.old)) }
-{
-    *hooks.entry(*hook)?.or_insert(0) += 1;
-    Ok(())
 }
 
 // Another packet at a place.
@@ -64,7 +53,7 @@ fn no_counts(alloc: Global) -> Counts
     Counts {
         left: [0; 64],
         up: [0; 64],
-        hooks: BTreeMap::new(alloc),
+        hooks: no_hooks(alloc),
     }
 }
 
@@ -126,12 +115,12 @@ fn put_ports(
     Ok(())
 }
 
-fn put_hooks(alloc: Global, text: &mut Vec<u8>, hooks: &BTreeMap<Name, u64>) -> Result<(), NoMemory>
+fn put_hooks(alloc: Global, text: &mut Vec<u8>, hooks: &HookCounts) -> Result<(), NoMemory>
     ensures { OnOk result (text.new.items
-        ≡ text.old.items ++ flat_map (λ name. hook_line name (hook_count hooks.now name)) (keys hooks.now)) }
+        ≡ text.old.items ++ flat_map (λ name. hook_line name (hook_count hooks.now name)) (keys hooks.now.places)) }
 {
-    for (name, packets) in hooks {
-        put_hook_line(alloc, text, name, *packets)?;
+    for (name, place) in &hooks.places {
+        put_hook_line(alloc, text, name, hooks.count(*place))?;
     }
     Ok(())
 }

@@ -1,14 +1,14 @@
 -- A packet on its way: what was met and what left so far, and what is still to be followed.
-use Rattle.std.proofs.Common.{◌≡◌, ◌≢◌, ◌∙◌, ℕ, zero, suc, ◌+◌, ◌-◌, ◌<◌, List, [], ◌∷◌, ◌++◌, length, drop, get_or, refl, sym, ap, subst, arith, append_assoc, append-nil}
-use Rattle.std.proofs.lemmas.List.{drop_more}
+use Rattle.std.proofs.Common.{◌≡◌, ◌≢◌, ◌∙◌, ℕ, zero, suc, ◌+◌, ◌-◌, ◌<◌, List, [], ◌∷◌, ◌++◌, length, refl, sym, ap, subst, arith, append_assoc, append-nil}
 use Rattle.std.specs.declared.option.Option.{Option}
 use Rattle.std.specs.declared.option.Option.TheVariants.{None, Some}
-use Rattle.ng_machine.specs.World.{NodeRecord}
-use Rattle.ng_machine.specs.Spread.{Spread, Flight, Fate, Vanishes, Untold, Comes, beside, fate, spread_all, spread_by, spread_in}
+use Rattle.ng_base.specs.declared.ids.NodeId.{NodeId}
+use Rattle.ng_machine.specs.World.{NodeRecord, hook_at, node_in}
+use Rattle.ng_machine.specs.Spread.{Spread, Flight, Fate, Vanishes, Untold, Comes, beside, fate, sent_by, spread_all, spread_by, spread_in}
 use Rattle.ng_forecast.specs.declared.spread.following.Followed.{Followed}
 use Rattle.ng_forecast.specs.declared.spread.following.Followed.TheVariants.{Everywhere, Nowhere, TooWide}
 use Rattle.ng_forecast.specs.declared.spread.following.Trail.{Trail}
-use Rattle.ng_forecast.specs.spread.Following.{Follows}
+use Rattle.ng_forecast.specs.spread.Following.{Follows, sent_from}
 use Rattle.ng_forecast.specs.spread.Met.{met_all, met_by, met_in}
 
 -- so many are still to be met, and their spreads are these
@@ -110,12 +110,34 @@ pub has_no_room : (nodes : List (Option NodeRecord)) (hops : ℕ) (f : Flight) (
 has_no_room nodes hops f room h none =
     let met = met_is nodes hops f h in let some = positive (fate nodes f) (met_all (λ g. met_in nodes (hops - 1) g)) in omega arith
 
--- the next of those that are still to be met
-pub next : (nodes : List (Option NodeRecord)) (hops met : ℕ) (spread : Option Spread) (f : Followed) (old now : Trail) (items : List Flight) (i : ℕ) (x : Flight)
-    → i < length items → x ≡ get_or items i x
-    → Underway (met_all (λ g. met_in nodes hops g) (drop i items)) met (spread_all (λ g. spread_in nodes hops g) (drop i items)) spread f old now
-    → Underway (met_in nodes hops x + met_all (λ g. met_in nodes hops g) (drop (i + 1) items)) met
-    (beside (spread_in nodes hops x) (spread_all (λ g. spread_in nodes hops g) (drop (i + 1) items))) spread f old now
-next nodes hops met spread f old now items i x lt is u =
+-- these are still to be sent by a node, and its copies to be followed
+abbrev pub Sending : List (Option NodeRecord) → ℕ → NodeId → List (List ℕ × List ℕ) → ℕ → Option Spread → Followed → Trail → Trail → Type 0
+Sending nodes hops at sends met spread f old now =
+    Underway (met_all (λ g. met_in nodes hops g) (sent_from nodes at sends)) met (spread_all (λ g. spread_in nodes hops g) (sent_from nodes at sends)) spread f old now
+
+-- the copies of the next one are to be followed before the others
+pub next : (nodes : List (Option NodeRecord)) (hops : ℕ) (at : NodeId) (met : ℕ) (spread : Option Spread) (f : Followed) (old now : Trail) (sends : List (List ℕ × List ℕ))
+    (x : List ℕ × List ℕ) (rest : List (List ℕ × List ℕ)) (copies : List Flight) → sends ≡ x ∷ rest → sent_by nodes (hook_at (node_in nodes at) x.0) x.1 ≡ copies
+    → Sending nodes hops at sends met spread f old now
+    → Underway (met_all (λ g. met_in nodes hops g) (copies ++ sent_from nodes at rest)) met (spread_all (λ g. spread_in nodes hops g) (copies ++ sent_from nodes at rest)) spread f old now
+next nodes hops at met spread f old now sends x rest copies is sent u =
     subst (λ (l : List Flight). Underway (met_all (λ g. met_in nodes hops g) l) met (spread_all (λ g. spread_in nodes hops g) l) spread f old now)
-    (drop_more items i x lt ∙ ap (λ (y : Flight). y ∷ drop (i + 1) items) (sym is)) u
+    (ap (sent_from nodes at) is ∙ ap (λ (l : List Flight). l ++ sent_from nodes at rest) sent) u
+
+pub none_left : (sends : List (List ℕ × List ℕ)) → length sends ≡ 0 → sends ≡ []
+none_left [] e = refl
+none_left (x ∷ sends) e = absurd (omega arith)
+
+-- none is left
+pub all_sent : (nodes : List (Option NodeRecord)) (hops : ℕ) (at : NodeId) (met : ℕ) (spread : Option Spread) (f : Followed) (old now : Trail) (sends : List (List ℕ × List ℕ))
+    → sends ≡ [] → Sending nodes hops at sends met spread f old now → Follows met spread f old now
+all_sent nodes hops at met spread f old now sends none u =
+    ends met spread f old now (subst (λ (l : List (List ℕ × List ℕ)). Sending nodes hops at l met spread f old now) none u)
+
+-- a node's copies are to be followed
+pub sends : (nodes : List (Option NodeRecord)) (hops : ℕ) (f : Flight) (at : NodeId) (sent list : List (List ℕ × List ℕ)) (old now : Trail) → hops ≢ 0
+    → now.room + 1 ≡ old.room → at ≡ f.to → list ≡ sent
+    → (leaves : Spread) × (fate nodes f ≡ Comes leaves (sent_from nodes f.to sent)) × (now.bag.items ≡ old.bag.items ++ leaves)
+    → Sending nodes (hops - 1) at list (met_in nodes hops f) (spread_in nodes hops f) Everywhere old now
+sends nodes hops f at sent list old now h room here is comes =
+    rw here (rw is (begins nodes hops f comes.0 (sent_from nodes f.to sent) old now h comes.1 room comes.2))

@@ -1,6 +1,5 @@
 -- What becomes of a packet, in the steps in which the code finds it.
-use Rattle.std.proofs.Common.{◌≡◌, ◌∙◌, ℕ, ◌+◌, ◌<◌, Bool, true, false, not, List, [], ◌∷◌, ◌++◌, length, drop, get_or, refl, sym, ap, append_assoc}
-use Rattle.std.proofs.lemmas.List.{at_drop_more}
+use Rattle.std.proofs.Common.{◌≡◌, ◌∙◌, ℕ, Bool, true, false, not, List, [], ◌∷◌, ◌++◌, refl, sym, ap}
 use Rattle.ng_base.specs.declared.ids.NodeId.{NodeId}
 use Rattle.std.specs.declared.option.Option.{Option}
 use Rattle.std.specs.declared.option.Option.TheVariants.{None, Some}
@@ -15,10 +14,10 @@ use Rattle.ng_machine.specs.declared.plan.Plan.TheVariants.{Discard, Echo, Fan, 
 use Rattle.ng_machine.specs.State.{KindState, HubState, HoleState, EchoState, SplitState, SocketState, TeeState, One2manyState, BridgeState, VlanState, PatchState, BpfState, EtherState, EtfState, MacsetState, kind_of_kept, way_of_kept, way_of}
 use Rattle.ng_machine.specs.Case.{eval, goes_ways, outcome_by_plan}
 use Rattle.ng_machine.specs.kinds.Ether.{arrives}
-use Rattle.ng_machine.specs.Effect.{door_name, is_hook_gone}
-use Rattle.ng_machine.specs.World.{NodeRecord, hook_at, hook_of, kind_at, node_in, state_of}
-use Rattle.ng_machine.specs.Spread.{Flight, Fate, Vanishes, Untold, Comes, beside, body_of, comes, fate, fate_at, fate_if, is_followed, leaving, sent_by, sent_on, spread_by, spread_in}
-use Rattle.ng_forecast.specs.spread.Following.{AreExits, ArrivesAt}
+use Rattle.ng_machine.specs.Effect.{door_name}
+use Rattle.ng_machine.specs.World.{NodeRecord, hook_at, kind_at, node_in, state_of}
+use Rattle.ng_machine.specs.Spread.{Flight, Vanishes, Untold, Comes, comes, fate, fate_at, fate_if, is_followed, leaving, sent_by, sent_on, spread_by, spread_in}
+use Rattle.ng_forecast.specs.spread.Following.{AreExits, ArrivesAt, sent_from}
 
 -- a node at which packets are followed has a plan
 has_way_kept : (kept : KindState) (hooks : List (List ℕ)) → is_followed (kind_of_kept kept) ≡ true → way_of_kept kept hooks ≡ None → ⊥
@@ -50,11 +49,20 @@ arrives_is nodes f kind a =
 pub untold_is : (nodes : List (Option NodeRecord)) (f : Flight) (kind : Kind) → ArrivesAt nodes f kind → is_followed kind ≡ false → fate nodes f ≡ Untold
 untold_is nodes f kind a unfollowed = arrives_is nodes f kind a ∙ ap (fate_if nodes f a.node false) unfollowed
 
+-- what a node sends arrives as it does by the node's number
+sent_is : (nodes : List (Option NodeRecord)) (at : NodeId) (node : NodeRecord) (sends : List (List ℕ × List ℕ)) → node_in nodes at ≡ Some node
+    → sent_on nodes node sends ≡ sent_from nodes at sends
+sent_is nodes at node [] there = refl
+sent_is nodes at node (x ∷ sends) there =
+    ap (λ (o : Option NodeRecord). sent_by nodes (hook_at o x.0) x.1 ++ sent_on nodes node sends) (sym there)
+    ∙ ap (λ (l : List Flight). sent_by nodes (hook_at (node_in nodes at) x.0) x.1 ++ l) (sent_is nodes at node sends there)
+
 pub comes_is : (nodes : List (Option NodeRecord)) (f : Flight) (kind : Kind) (plan : Plan) (a : ArrivesAt nodes f kind) → is_followed kind ≡ true → way_of (state_of a.node) ≡ Some plan
-    → fate nodes f ≡ Comes (leaving f.to (door_name f.door) (eval plan f.door f.packet).leaves) (sent_on nodes a.node (eval plan f.door f.packet).sends)
+    → fate nodes f ≡ Comes (leaving f.to (door_name f.door) (eval plan f.door f.packet).leaves) (sent_from nodes f.to (eval plan f.door f.packet).sends)
 comes_is nodes f kind plan a followed way =
     arrives_is nodes f kind a ∙ ap (fate_if nodes f a.node false) followed
     ∙ ap (λ (p : Option Plan). comes nodes f a.node (outcome_by_plan (state_of a.node) p f.door f.packet)) way
+    ∙ ap (Comes (leaving f.to (door_name f.door) (eval plan f.door f.packet).leaves)) (sent_is nodes f.to a.node (eval plan f.door f.packet).sends a.there)
 
 -- no packet by the wire goes to the reader
 ways_wire : (kind : Kind) (hooks : List (List ℕ)) (packet : List ℕ) → AreExits Wire (goes_ways kind hooks Wire packet).leaves
@@ -115,14 +123,3 @@ nowhere nodes f kind a = ap (spread_by (λ fs. None)) (arrives_is nodes f kind a
 
 pub vanished : (nodes : List (Option NodeRecord)) (f : Flight) → fate nodes f ≡ Vanishes → spread_in nodes 0 f ≡ Some []
 vanished nodes f e = ap (spread_by (λ fs. None)) e
-
--- a copy that is sent is in front of those that are to be sent
-pub sent_more : (nodes : List (Option NodeRecord)) (node : NodeRecord) (at : NodeId) (old new : List Flight) (items : List (List ℕ × List ℕ)) (i : ℕ) (x : List ℕ × List ℕ) (all : List Flight)
-    → i < length items → x ≡ get_or items i x → node_in nodes at ≡ Some node → new ≡ old ++ sent_by nodes (hook_at (node_in nodes at) x.0) x.1
-    → old ++ sent_on nodes node (drop i items) ≡ all → new ++ sent_on nodes node (drop (i + 1) items) ≡ all
-sent_more nodes node at old new items i x all lt is here grown so_far =
-    ap (λ (l : List Flight). l ++ sent_on nodes node (drop (i + 1) items)) (grown ∙ ap (λ (o : Option NodeRecord). old ++ sent_by nodes (hook_at o x.0) x.1) here)
-    ∙ append_assoc old (sent_by nodes (hook_of node x.0) x.1) (sent_on nodes node (drop (i + 1) items))
-    ∙ ap (λ (l : List Flight). old ++ l)
-    (ap (λ (y : List ℕ × List ℕ). sent_on nodes node (y ∷ drop (i + 1) items)) is ∙ sym (at_drop_more (sent_on nodes node) items i x lt))
-    ∙ so_far

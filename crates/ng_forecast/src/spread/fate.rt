@@ -1,33 +1,32 @@
 // What becomes of a packet at the node that it comes to.
-ghost use Rattle.std.specs.Prelude.{◌≡◌, ◌++◌, Some, is_some, IfOk, OnOk, IfSome, IfNone};
+ghost use Rattle.std.specs.Prelude.{◌≡◌, ◌∷◌, ◌++◌, [], Some, is_some, IfOk, OnOk, IfSome, IfNone};
 ghost use Rattle.ng_machine.specs.Effect.{door_name, is_hook_gone};
-ghost use Rattle.ng_machine.specs.Spread.{Vanishes, body_of, fate, is_followed, leaving, place_of, sent_by, sent_on};
+ghost use Rattle.ng_machine.specs.Outcome.{nothing};
+ghost use Rattle.ng_machine.specs.Spread.{Vanishes, body_of, fate, is_followed, leaving, place_of, sent_by};
 ghost use Rattle.ng_machine.specs.World.{NodeRecord, hook_at, linked_hook, node_in};
-ghost use Rattle.ng_forecast.specs.spread.Following.{AreExits, ArrivesAt, IsExit, fate_of};
+ghost use Rattle.ng_forecast.specs.spread.Following.{AreExits, ArrivesAt, Finds, IsExit};
 
 use crate::spread::Flight;
-use ng_base::{Kind, LinkId, Name, NoMemory, NodeId, Packet};
+use ng_base::{Errno, Kind, LinkId, Name, NoMemory, NodeId, Packet, Sequence};
 use ng_core::Still;
-use ng_machine::{Door, Exit, Leaves, Place, Sends};
-use ng_plan::eval;
+use ng_machine::{Door, Exit, Outcome, Place};
+use ng_plan::eval_into;
 use ng_plan::node::Node;
 use std::alloc::Global;
+use std::mem;
 
 // The first port's node.
 const FIRST_PORT: u32 = 2;
 
-/// What becomes of a packet at the node that it comes to.
+/// What becomes of a packet at the node that it comes to, beside the copies that leave the graph.
 #[derive(Drop)]
 pub enum Fate {
     /// Nothing: the node isn't there, or its hook isn't or has another link.
     Vanishes,
     /// What becomes of it depends on the packets before it.
     Untold,
-    /// Copies leave the graph, and copies are sent on to other nodes.
-    Comes {
-        leaves: Vec<(Place, Packet)>,
-        sent: Vec<Flight>,
-    },
+    /// Copies are sent out of these hooks of the node, in order.
+    Comes { sends: Vec<(Name, Packet)> },
 }
 
 // Whether what becomes of a packet at a node of the kind doesn't depend on the packets before it.
@@ -108,74 +107,90 @@ fn place_of(at: NodeId, door: &Door, exit: Exit) -> Place
     }
 }
 
-// The places of the packets that leave.
-fn places(
-    alloc: Global,
+// The packets that leave are added to a bag, each with its place.
+fn put_leaves(
     at: NodeId,
     door: &Door,
-    leaves: Leaves,
-) -> Result<Vec<(Place, Packet)>, NoMemory>
-    requires { AreExits door.now leaves }
-    ensures { IfOk result (λ left. left.items ≡ leaving at (door_name door.now) leaves) }
-{
-    let mut left = Vec::new(alloc);
-    for (exit, packet) in leaves.as_slice() {
-        left.push((place_of(at, door, *exit), packet.again()?))?;
-    }
-    Ok(left)
-}
-
-// A copy that is sent out of a hook, where it arrives: the hook is joined, and its peer's node is there.
-fn send<B: Node>(
-    still: &Still<'_, B>,
-    at: NodeId,
-    name: &Name,
-    packet: &Packet,
-    sent: &mut Vec<Flight>,
+    leaves: &[(Exit, Packet)],
+    bag: &mut Vec<(Place, Packet)>,
 ) -> Result<(), NoMemory>
-    ensures { OnOk result (sent.new.items ≡ sent.old.items ++ sent_by still.now.nodes (hook_at (node_in still.now.nodes at) name.now) packet.now) }
+    requires { AreExits door.now leaves.now }
+    ensures { OnOk result (bag.new.items ≡ bag.old.items ++ leaving at (door_name door.now) leaves.now) }
 {
-    let Some(hook) = still.hook_near(at, name, sent.len()) else {
-        return Ok(());
-    };
-    if hook.joined && still.kind(hook.peer.node).is_some() {
-        sent.push(Flight {
-            to: hook.peer.node,
-            door: Door::Hook(hook.peer.hook),
-            link: Some(hook.link),
-            packet: packet.again()?,
-            near: sent.len(),
-        })?;
+    for (exit, packet) in leaves {
+        bag.push((place_of(at, door, *exit), packet.again()?))?;
     }
     Ok(())
 }
 
-// The copies that are sent on and arrive.
-fn flights<B: Node>(
-    alloc: Global,
-    still: &Still<'_, B>,
-    at: NodeId,
-    sends: Sends,
-) -> Result<Vec<Flight>, NoMemory>
-    ensures { IfOk result (λ sent. (node : NodeRecord) → node_in still.now.nodes at ≡ Some node → sent.items ≡ sent_on still.now.nodes node sends) }
+// Drops the values of a list, and keeps its memory.
+fn clear_list<T: Drop>(alloc: Global, list: &mut Sequence<T>)
+    ensures { list.new ≡ [] }
 {
-    let mut sent = Vec::new(alloc);
-    for (name, packet) in sends.as_slice() {
-        send(still, at, name, packet, &mut sent)?;
-    }
-    Ok(sent)
+    let mut values = mem::replace(list, Sequence::new(alloc)).into_vec();
+    values.clear();
+    *list = Sequence::from_vec(values);
 }
 
-/// What becomes of a packet at the node that it comes to.
+// What an outcome sends. Nothing is left of the outcome but the memory of its other lists.
+fn take_sends(alloc: Global, outcome: &mut Outcome) -> Vec<(Name, Packet)>
+    ensures sends { result.items ≡ outcome.old.sends }
+    ensures blank { outcome.new ≡ nothing }
+{
+    let sends = mem::replace(&mut outcome.sends, Sequence::new(alloc)).into_vec();
+    clear_list(alloc, &mut outcome.leaves);
+    clear_list(alloc, &mut outcome.counts);
+    outcome.answer = None;
+    outcome.learn = None;
+    outcome.errno = Errno::NONE;
+    sends
+}
+
+/// A copy that a node sends out of a hook, on its way: none where it doesn't arrive, since the hook isn't there or
+/// isn't joined, or its peer's node isn't there. The hook and its peer's are looked for at a place first.
+pub(super) fn sent_flight<B: Node>(
+    still: &Still<'_, B>,
+    at: NodeId,
+    name: &Name,
+    packet: Packet,
+    near: usize,
+) -> Option<Flight>
+    ensures some { IfSome result (λ f.
+        sent_by still.now.nodes (hook_at (node_in still.now.nodes at) name.now) packet ≡ f ∷ []) }
+    ensures none { IfNone result
+        (sent_by still.now.nodes (hook_at (node_in still.now.nodes at) name.now) packet ≡ []) }
+{
+    let Some(hook) = still.hook_near(at, name, near) else {
+        return None;
+    };
+    if hook.joined && still.kind(hook.peer.node).is_some() {
+        Some(Flight {
+            to: hook.peer.node,
+            door: Door::Hook(hook.peer.hook),
+            link: Some(hook.link),
+            packet,
+            near,
+        })
+    } else {
+        None
+    }
+}
+
+/// What becomes of a packet at the node that it comes to. The copies that leave there are added to the bag, each with
+/// its place. `spare` is an outcome that has nothing, whose memory is used again.
 ///
 /// # Errors
-/// `NoMemory` where memory ran out, and for nothing else.
+/// `NoMemory` where memory ran out, and for nothing else. Nothing is said of the bag and of `spare` then.
 pub fn find_fate<B: Node>(
     alloc: Global,
     still: &Still<'_, B>,
     flight: &Flight,
+    spare: &mut Outcome,
+    bag: &mut Vec<(Place, Packet)>,
 ) -> Result<Fate, NoMemory>
-    ensures { IfOk result (λ found. fate_of found ≡ fate still.now.nodes flight.now) }
+    requires { spare.old ≡ nothing }
+    ensures blank { OnOk result (spare.new ≡ nothing) }
+    ensures found { IfOk result (λ found. Finds still.now.nodes flight.now found bag.old.items bag.new.items) }
 {
     let Some(kind) = arrives_at(still, flight) else {
         return Ok(Fate::Vanishes);
@@ -186,8 +201,8 @@ pub fn find_fate<B: Node>(
     let Some(plan) = still.plan(flight.to) else {
         unreachable!()
     };
-    let outcome = eval(alloc, plan, &flight.door, &flight.packet)?;
-    let leaves = places(alloc, flight.to, &flight.door, outcome.leaves)?;
-    let sent = flights(alloc, still, flight.to, outcome.sends)?;
-    Ok(Fate::Comes { leaves, sent })
+    eval_into(alloc, plan, &flight.door, &flight.packet, spare)?;
+    put_leaves(flight.to, &flight.door, spare.leaves.as_slice(), bag)?;
+    let sends = take_sends(alloc, spare);
+    Ok(Fate::Comes { sends })
 }

@@ -1,15 +1,16 @@
 // A packet is followed through the graph.
-ghost use Rattle.std.specs.Prelude.{◌≡◌, IfOk};
+ghost use Rattle.std.specs.Prelude.{◌≡◌, IfOk, OnOk};
+ghost use Rattle.ng_machine.specs.Outcome.{nothing};
 ghost use Rattle.ng_machine.specs.Spread.{spread_in};
 ghost use Rattle.ng_forecast.specs.spread.Following.{Follows};
 ghost use Rattle.ng_forecast.specs.spread.Met.{met_in};
 ghost use Rattle.ng_forecast.specs.declared.spread.following.Trail.{Trail};
 
-use crate::spread::fate::arrives_at;
+use crate::spread::fate::{arrives_at, sent_flight};
 use crate::spread::{Fate, Flight, find_fate};
 use ng_base::{NoMemory, Packet};
 use ng_core::Still;
-use ng_machine::Place;
+use ng_machine::{Outcome, Place};
 use ng_plan::node::Node;
 use std::alloc::Global;
 
@@ -44,19 +45,22 @@ fn stop<B: Node>(still: &Still<'_, B>, flight: &Flight) -> Followed
     }
 }
 
-/// Follows a packet that may visit so many nodes, one after another, and adds what leaves to the bag. Each copy that is met
-/// takes room.
+/// Follows a packet that may visit so many nodes, one after another, and adds what leaves to the bag. Each copy that is
+/// met takes room. `spare` is an outcome that has nothing, whose memory is used again.
 ///
 /// # Errors
-/// `NoMemory` where memory ran out, and for nothing else. Nothing is said of the trail then.
+/// `NoMemory` where memory ran out, and for nothing else. Nothing is said of the trail and of `spare` then.
 pub fn follow<B: Node>(
     alloc: Global,
     still: &Still<'_, B>,
     hops: u32,
     flight: &Flight,
+    spare: &mut Outcome,
     trail: &mut Trail,
 ) -> Result<Followed, NoMemory>
-    ensures { IfOk result (λ followed. Follows (met_in still.now.nodes hops flight.now) (spread_in still.now.nodes hops flight.now) followed trail.old trail.new) }
+    requires { spare.old ≡ nothing }
+    ensures blank { OnOk result (spare.new ≡ nothing) }
+    ensures follows { IfOk result (λ followed. Follows (met_in still.now.nodes hops flight.now) (spread_in still.now.nodes hops flight.now) followed trail.old trail.new) }
 {
     if hops == 0 {
         return Ok(stop(still, flight));
@@ -65,15 +69,20 @@ pub fn follow<B: Node>(
         return Ok(Followed::TooWide);
     }
     trail.room -= 1;
-    let (mut leaves, sent) = match find_fate(alloc, still, flight)? {
+    let sends = match find_fate(alloc, still, flight, spare, &mut trail.bag)? {
         Fate::Vanishes => return Ok(Followed::Everywhere),
         Fate::Untold => return Ok(Followed::Nowhere),
-        Fate::Comes { leaves, sent } => (leaves, sent),
+        Fate::Comes { sends } => sends,
     };
-    trail.bag.append(&mut leaves)?;
     let mut followed = Followed::Everywhere;
-    for flight in &sent {
-        match follow(alloc, still, hops - 1, flight, trail)? {
+    let mut near: usize = 0;
+    for (name, packet) in sends {
+        let place = near;
+        near = near.wrapping_add(1);
+        let Some(copy) = sent_flight(still, flight.to, &name, packet, place) else {
+            continue;
+        };
+        match follow(alloc, still, hops - 1, &copy, spare, trail)? {
             Followed::Everywhere => {}
             Followed::Nowhere => followed = Followed::Nowhere,
             Followed::TooWide => return Ok(Followed::TooWide),

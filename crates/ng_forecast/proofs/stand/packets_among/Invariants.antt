@@ -1,4 +1,4 @@
-use Rattle.std.proofs.Common.{◌≡◌, ◌++◌}
+use Rattle.std.proofs.Common.{◌≡◌}
 use Rattle.ng_forecast.specs.Arrivals.{packets_among}
 use Rattle.ng_forecast.proofs.stand.packets_among.Given as goal
 

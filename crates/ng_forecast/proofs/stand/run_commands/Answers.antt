@@ -1,22 +1,20 @@
-use Rattle.std.proofs.Common.{◌≡◌, ◌∙◌, ℕ, ◌+◌, List, [], ◌∷◌, length, map, false, refl, sym, ap, subst}
+use Rattle.std.proofs.Common.{◌≡◌, ◌∙◌, ℕ, List, ◌∷◌, length, map, false, refl, sym, ap, subst}
 use Rattle.std.proofs.lemmas.List.{length-map}
 use Rattle.ng_base.specs.declared.kind.Kind.{Kind}
-use Rattle.ngctl_script.specs.feed.Inputs.{commands_that, is_first}
 use Rattle.ng_machine.specs.declared.input.Input.{Input}
-use Rattle.ng_machine.specs.Laws.{Setting, run_state_after, world_after}
+use Rattle.ng_machine.specs.Laws.{world_after}
 use Rattle.ng_machine.specs.LowRun.{IsModest}
 use Rattle.ng_machine.specs.Run.{RunState}
 use Rattle.ng_machine.specs.State.{kind_of}
-use Rattle.ng_machine.specs.World.{World}
 use Rattle.ng_workers.specs.pool.Plainly.{WentPlainly}
 use Rattle.ng_core.specs.Beginning.{begun_core}
 use Rattle.ng_core.specs.CoreStory.{CoreStory, setting_of as core_setting, story}
 use Rattle.ng_core.proofs.PortCounts.{ports_stay}
-use Rattle.ng_machine.specs.story.Story.{has_ended, with_more, world_of}
+use Rattle.ng_machine.specs.story.Story.{has_ended, with_more}
 use Rattle.ng_args.specs.declared.port.PortWord.{PortWord}
 use Rattle.ng_base.specs.Names.{are_different}
 use Rattle.ng_core.proofs.Stocked.{begun_runs}
-use Rattle.ng_forecast.specs.Steps.{IsRun, most_applied, setting_of}
+use Rattle.ng_forecast.specs.Steps.{IsRun, most_applied}
 use Rattle.ng_forecast.proofs.Standing.{is_modest, names_differ}
 use Rattle.ng_forecast.proofs.stand.run_commands.Goals as goal
 use Rattle.ng_forecast.proofs.stand.run_commands.Goals.{After-journal-journal}

@@ -1,4 +1,4 @@
-use Rattle.ng_forecast.proofs.Counting.{lines_told}
+use Rattle.ng_forecast.proofs.ByHook.{lines_told}
 use Rattle.ng_forecast.proofs.text.put_hooks.Goals as goal
 
 pub returns : goal.returns

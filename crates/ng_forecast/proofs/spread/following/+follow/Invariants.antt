@@ -1,15 +1,18 @@
-use Rattle.std.proofs.Common.{◌-◌, drop}
-use Rattle.ng_machine.specs.Spread.{spread_all, spread_in}
-use Rattle.ng_forecast.specs.spread.Met.{met_all, met_in}
-use Rattle.ng_forecast.proofs.spread.Walking.{Underway}
+use Rattle.std.proofs.Common.{◌≡◌, ◌-◌}
+use Rattle.std.specs.Vec.Iter.{into_iter_items}
+use Rattle.ng_machine.specs.Outcome.{nothing}
+use Rattle.ng_machine.specs.Spread.{spread_in}
+use Rattle.ng_forecast.specs.spread.Met.{met_in}
+use Rattle.ng_forecast.proofs.spread.Walking.{Sending}
 use Rattle.ng_forecast.proofs.spread.following.+follow.Given as goal
 
 abbrev pub decreases-follow : goal.decreases-follow
 decreases-follow g l = l.hops
 
--- these copies are still to be followed
-abbrev pub invariant-loop-flight : goal.invariant-loop-flight
-invariant-loop-flight g l =
-    Underway (met_all (λ f. met_in l.still.nodes (l.hops - 1) f) (drop l.flight-index l.flight-items)) (met_in l.still.nodes l.hops l.flight)
-    (spread_all (λ f. spread_in l.still.nodes (l.hops - 1) f) (drop l.flight-index l.flight-items)) (spread_in l.still.nodes l.hops l.flight)
-    l.followed l.fn.trail l.trail
+-- the copies of what the iterator has left are still to be followed
+abbrev pub invariant-loop-name : goal.invariant-loop-name
+invariant-loop-name g l = record {
+  blank : l.spare ≡ nothing;
+  sending : Sending l.still.nodes (l.hops - 1) l.flight-inside.to (into_iter_items l.name-iterator) (met_in l.still.nodes l.hops l.flight)
+      (spread_in l.still.nodes l.hops l.flight) l.followed l.fn.trail l.trail;
+}
