@@ -1,5 +1,5 @@
 -- What comes of a packet is no longer than the longest packet, and not much of it.
-use Rattle.std.proofs.Common.{◌≡◌, if◌then◌else◌, cond, ℕ, zero, suc, ◌+◌, ◌-◌, ◌≤◌, ◌<◌, ◌==◌, Bool, true, false, not, List, [], ◌∷◌, ◌++◌, map, length, take, drop, nat_lt, nat_le, slice_get, refl, sym, ap, ◌∙◌, arith}
+use Rattle.std.proofs.Common.{◌≡◌, if◌then◌else◌, ℕ, ◌+◌, ◌≤◌, ◌==◌, Bool, true, false, not, List, [], ◌∷◌, ◌++◌, map, length, take, drop, nat_lt, nat_le, slice_get, refl, arith}
 use Rattle.std.specs.List.{fold, filter, find, list_any}
 use Rattle.std.specs.Option.{option_to_list}
 use Rattle.std.specs.Str.{bytes_eq}
@@ -11,9 +11,9 @@ use Rattle.std.proofs.lemmas.List.{length-map, length-append, length-take, lengt
 use Rattle.byteorder.specs.Endian.{big_bytes, big_number}
 use Rattle.byteorder.specs.Numbers.{length-bytes_high_first}
 use Rattle.ng_base.specs.declared.errno.Errno.{Errno}
-use Rattle.ng_base.specs.declared.ids.LinkId.{LinkId}
 use Rattle.ng_base.specs.Names.{has_name, without_name}
 use Rattle.ng_frame.specs.Frame.{with_tag, without_tag, tag_of}
+use Rattle.ng_machine.proofs.Standing.{fewer_filtered}
 use Rattle.ng_machine.specs.declared.body.Door.{Door}
 use Rattle.ng_machine.specs.declared.body.Exit.{Exit}
 use Rattle.ng_machine.specs.declared.body.Door.TheVariants.{Wire, Hook as ByHook}
@@ -28,7 +28,7 @@ use Rattle.ng_machine.specs.declared.plan.BridgeHost.{BridgeHost}
 use Rattle.ng_machine.specs.Words.{Every, below}
 use Rattle.ng_machine.specs.Names.{lower, in_hook, out_hook, mixed, downstream, nomatch, one, left, right, right2left, left2right, all_hook, known_hook, other_hook}
 use Rattle.ng_machine.specs.Counters.{Count}
-use Rattle.ng_machine.specs.Outcome.{nothing, sends_by, leaves, fails, counts_only}
+use Rattle.ng_machine.specs.Outcome.{nothing, sends_by, leaves, fails}
 use Rattle.ng_machine.specs.Errors.{emsgsize}
 use Rattle.ng_machine.specs.kinds.Ether.{arrives}
 use Rattle.ng_machine.specs.kinds.Tee.{onward, copies}
@@ -40,9 +40,9 @@ use Rattle.ng_machine.specs.kinds.Patch as patch
 use Rattle.ng_machine.specs.kinds.Bpf as bpf
 use Rattle.ng_machine.specs.kinds.Etf as etf
 use Rattle.ng_bpf_vm.specs.Machine.{answer_of}
-use Rattle.ng_machine.specs.State.{KindState, HubState, HoleState, EchoState, SplitState, SocketState, TeeState, One2manyState, BridgeState, VlanState, PatchState, BpfState, EtherState, EtfState, MacsetState, State, way_of_kept}
+use Rattle.ng_machine.specs.State.{KindState, HubState, HoleState, EchoState, SplitState, SocketState, TeeState, One2manyState, BridgeState, VlanState, PatchState, BpfState, EtherState, EtfState, MacsetState, way_of_kept}
 use Rattle.ng_machine.specs.Case.{outcome_by_plan}
-use Rattle.ng_machine.specs.Bounds.{Fits, links_of, most_sent, IsBounded, PacketsAreBounded}
+use Rattle.ng_machine.specs.Bounds.{Fits, links_of, IsBounded, PacketsAreBounded}
 
 -- Outcomes
 
@@ -78,15 +78,6 @@ either most false x y hx hy = hy
 
 sent_by : (most : ℕ) (hooks : List (List ℕ)) (hook packet : List ℕ) → Fits packet → IsBounded (1 + most) (sends_by hooks hook packet)
 sent_by most hooks hook packet fits = either (1 + most) (has_name hooks hook) _ nothing (sent most hook packet [] fits) (silent (1 + most) [] None _)
-
--- what passes a test is no longer than all
-fewer : {A : Type 0} (test : A → Bool) (xs : List A) → length (filter test xs) ≤ length xs
-fewer test [] = omega arith
-fewer {A = A} test (x ∷ xs) = by (test x) (fewer test xs)
-  where
-    by : (b : Bool) → length (filter test xs) ≤ length xs → length (cond b (x ∷ filter test xs) (filter test xs)) ≤ suc (length xs)
-    by true le = omega arith
-    by false le = omega arith
 
 -- Packets that are changed
 
@@ -140,7 +131,7 @@ onward_few hook = by (bytes_eq hook right) (bytes_eq hook left) (bytes_eq hook r
 tee_bounded : (most : ℕ) (hooks : List (List ℕ)) (hook packet : List ℕ) → Fits packet → 2 ≤ most → IsBounded most (copies hook (filter (has_name hooks) (onward hook)) packet)
 tee_bounded most hooks hook packet fits room =
     fanned most (filter (has_name hooks) (onward hook)) packet _ None _ fits
-    (let a = fewer (has_name hooks) (onward hook) in let b = onward_few hook in omega arith)
+    (let a = fewer_filtered (has_name hooks) (onward hook) in let b = onward_few hook in omega arith)
 
 one_at_most : {A : Type 0} (x : Option A) → length (option_to_list x) ≤ 1
 one_at_most None = omega arith
@@ -158,7 +149,7 @@ chosen_few : (s : many.One2many) (hooks : List (List ℕ)) (hook : List ℕ) →
 chosen_few s hooks hook = by (bytes_eq hook one) (has_name hooks one)
   where
     active_links : length (many.active_links s hooks) ≤ 64
-    active_links = fewer (many.is_active s hooks) (below 64)
+    active_links = fewer_filtered (many.is_active s hooks) (below 64)
 
     by : (a b : Bool) → length (if a then map many.many (many.links_to_deal s (many.active_links s hooks)) else if b then one ∷ [] else []) ≤ 64
     by true b = let e = length-map (many.links_to_deal s (many.active_links s hooks)) many.many in let le = dealt_few s (many.active_links s hooks) active_links in omega arith
@@ -168,7 +159,7 @@ chosen_few s hooks hook = by (bytes_eq hook one) (has_name hooks one)
 others_few : (links : List BridgeLink) (hook : List ℕ) → length (bridge.others links hook) ≤ length links
 others_few links hook =
     let e = length-map links (λ (l : BridgeLink). l.hook) in
-    let le = fewer (λ (other : List ℕ). not (bytes_eq other hook)) (map (λ (l : BridgeLink). l.hook) links) in
+    let le = fewer_filtered (λ (other : List ℕ). not (bytes_eq other hook)) (map (λ (l : BridgeLink). l.hook) links) in
     omega arith
 
 toward_few : (links : List BridgeLink) (number link : ℕ) → length (bridge.toward links number link) ≤ 1
@@ -279,7 +270,7 @@ part_bounded : (kept : KindState) (hooks : List (List ℕ)) (door : Door) (packe
     → IsBounded (64 + (length hooks + links_of kept)) (outcome_by_plan (record { hooks = hooks; kept = kept }) (way_of_kept kept hooks) door packet)
 part_bounded (HubState s) hooks Wire packet fits = silent _ [] None _
 part_bounded (HubState s) hooks (ByHook hook) packet fits =
-    fanned _ (without_name hooks hook) packet [] None _ fits (let le = fewer (λ (other : List ℕ). not (bytes_eq other hook)) hooks in omega arith)
+    fanned _ (without_name hooks hook) packet [] None _ fits (let le = fewer_filtered (λ (other : List ℕ). not (bytes_eq other hook)) hooks in omega arith)
 part_bounded HoleState hooks door packet fits = silent _ [] None _
 part_bounded EchoState hooks Wire packet fits = silent _ [] None _
 part_bounded EchoState hooks (ByHook hook) packet fits = more 1 _ _ (omega arith) (sent 0 hook packet [] fits)

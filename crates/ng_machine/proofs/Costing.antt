@@ -1,6 +1,6 @@
--- What the changes of an item cost: how many items, packets and notes they bring, and by how much hooks and links grow.
-use Rattle.std.proofs.Common.{◌≡◌, ◌⊎◌, ℕ, zero, suc, ◌+◌, ◌<◌, ◌≤◌, ◌==◌, ◌||◌, Bool, true, false, not, if◌then◌else◌, cond, List, [], ◌∷◌, ◌++◌, length, map, refl, sym, ap, ◌∙◌, inl, inr, ⊎_elim, subst, arith, true≢false, length-append}
-use Rattle.std.specs.List.{flat_map, filter, find}
+-- Every change of an effect occurs, and what they cost: how many items, packets and notes they bring.
+use Rattle.std.proofs.Common.{◌≡◌, ℕ, ◌+◌, ◌≤◌, ◌==◌, ◌||◌, Bool, true, false, not, if◌then◌else◌, cond, List, [], ◌∷◌, ◌++◌, length, refl, sym, ap, ◌∙◌, inl, inr, arith}
+use Rattle.std.specs.List.{flat_map, filter}
 use Rattle.std.specs.declared.option.Option.{Option}
 use Rattle.std.specs.declared.option.Option.TheVariants.{None, Some}
 use Rattle.std.specs.declared.result.Result.{Result}
@@ -10,7 +10,6 @@ use Rattle.ng_base.specs.declared.errno.Errno.{Errno}
 use Rattle.ng_base.specs.declared.ids.LinkId.{LinkId}
 use Rattle.ng_base.specs.declared.ids.NodeId.{NodeId}
 use Rattle.ng_base.specs.declared.kind.Kind.{Kind}
-use Rattle.ng_base.specs.declared.kind.Kind.TheVariants.{Hub, Hole, Echo, Tee, Split, One2many, Bridge, Vlan, Patch, Bpf, Ether, Socket, Etf, Macset}
 use Rattle.ng_base.specs.Kind.{kind_named}
 use Rattle.ng_message.specs.declared.message.Msg.{Msg as Message}
 use Rattle.ng_machine.specs.declared.body.Body.{Body}
@@ -25,80 +24,54 @@ use Rattle.ng_machine.specs.declared.farewell.Farewell.{Farewell}
 use Rattle.ng_machine.specs.declared.farewell.Farewell.TheVariants.{Plain, Stay, Bypass}
 use Rattle.ng_machine.specs.Words.{Has, Every, times}
 use Rattle.ng_machine.specs.Errors.{einval, enoent, enxio}
-use Rattle.ng_machine.specs.Body.{is_frame, is_tick, is_at}
-use Rattle.ng_machine.specs.Bounds.{Fits, IsBounded, most_sent, links_of}
+use Rattle.ng_machine.specs.Body.{is_at, is_writer}
+use Rattle.ng_machine.specs.Bounds.{links_of}
 use Rattle.ng_machine.specs.KnownRun.{PacketFits}
-use Rattle.ng_machine.specs.State.{KindState, blank_kept, HubState, HoleState, EchoState, SplitState, SocketState, TeeState, One2manyState, BridgeState, VlanState, PatchState, BpfState, EtherState, EtfState, MacsetState, kind_of_kept, kept_without_hook, kept_without_hooks}
-use Rattle.ng_machine.specs.Rules.{farewell_of, is_lasting}
-use Rattle.ng_machine.specs.Case.{outcome_of, kept_after}
-use Rattle.ng_machine.specs.World.{World, NodeRecord, state_of, kind_at, node_at, is_there, hook_of, is_named, linked_hook, new_hook, with_hook, without_hook, without_hooks, with_changed_hook, change_hook, settle_hook, bind_to, hook_names, link_id, next_node}
+use Rattle.ng_machine.specs.Rules.{farewell_of}
+use Rattle.ng_machine.specs.Case.{outcome_of}
+use Rattle.ng_machine.specs.World.{World, NodeRecord, state_of, kind_at, hook_of, is_named, linked_hook, without_hook, hook_names}
 use Rattle.ng_path.specs.Address.{Address, read_address}
 use Rattle.ng_machine.specs.Walk.{walk}
-use Rattle.ng_machine.specs.Change.{Change, Sets, Makes, Retires, Accepts, Posts, Notes, Note, Tells, Refuses, Exits, Links, items_of}
+use Rattle.ng_machine.specs.Change.{Change, Makes, Accepts, Posts, Notes, Refuses, Exits, Links, items_of}
 use Rattle.ng_machine.specs.Order.{Order, Shutdown, Mkpeer, Connect, Rename, Rmhook, Asks, read_order}
-use Rattle.ng_machine.specs.Retire.{refuse, aftermath, aftermath_of, retiring, leave_steps, leave_step_to, leave_step_unless, outward, hooks_but, bypass, farewell, stays, has_hooks, cut_to_if}
+use Rattle.ng_machine.specs.Retire.{refuse, aftermath, aftermath_of, retiring, leave_steps, leave_step_unless, outward, is_outward, hooks_but, bypass, farewell, stays, cut_to_if}
 use Rattle.ng_machine.specs.Connect.{unless, hook_refusal, connect_changes, connect_to, connect, join, settle, undo, rmhook, remove_peer_hook, rebind}
-use Rattle.ng_machine.specs.Generic.{mkpeer, mkpeer_refusal, makes, rename_refusal, carry_out, ordered_by, ordered}
-use Rattle.ng_machine.specs.Effect.{door_name, exits, posts, counts_unless, is_fine, becomes, serve, learns_by, learns, pass, learn, answered, reply_changes_if, told_answer, MessageClass, AnAnswer, AnOrder, OfKind, Foreign, class_of, message_by, effect_at}
-use Rattle.ng_machine.proofs.Owed.{made_kind, cut_kind, cut_all_kind, passed_kind, reply_kind, ticked_kind, learned_kind}
+use Rattle.ng_machine.specs.Generic.{mkpeer, mkpeer_refusal, makes, rename_refusal, carry_out, ordered_by}
+use Rattle.ng_machine.specs.Effect.{door_name, exits, posts, counts_unless, is_fine, serve, learns, learn, answered, reply_changes_if, told_answer, MessageClass, AnAnswer, AnOrder, OfKind, Foreign, class_of, message_by, effect_at}
 use Rattle.ng_machine.proofs.Refusing.{reply_quiet}
 use Rattle.ng_machine.proofs.Bounded.{packets_are_bounded}
-use Rattle.ng_machine.proofs.Linked.{links_are_few}
-use Rattle.ng_machine.proofs.Preserving.{join_all}
-use Rattle.ng_machine.proofs.Owing.{is_make, count_makes}
+use Rattle.ng_machine.proofs.Every.{every_join}
+use Rattle.ng_machine.proofs.Occurs.{IsOrder, MakesPeer, ByRule, WithPeer, WithHook, Joined, Renamed, Cut, Emptied, Settled, Bound, Peer, Goes, ShutDown, LastRemoved, LastLost, ToLearn, Replied, Answered, ToLeave, ToJoin, ToRebind, HasJoined, HasRefused, HasGone, Fails, Hears, CountsRefused, LetsOut, UsesLink, Occurs, order_writes}
+use Rattle.ng_machine.proofs.Standing.{of_find, fewer_filtered}
 
 -- What one change costs
 
 abbrev pub is_join : Body → Bool
 is_join (Join2 hook link peer peer_hook) = true
-is_join (Frame door link packet) = false
-is_join (Msg msg) = false
-is_join (Join3 hook link) = false
-is_join (Undo hook link errno) = false
-is_join (Leave hook link) = false
-is_join (Rebind hook old new peer peer_hook) = false
-is_join (Tick seconds) = false
-is_join (Learn hook link addr) = false
+is_join _ = false
 
 abbrev pub has_join : Item → Bool
 has_join item = is_join item.body
 
-abbrev note_weight : Note → ℕ
-note_weight (Tells told) = 0
-note_weight Refuses = 1
-note_weight (Exits exit hook packet) = 1
-note_weight Links = 0
-
 -- items and packets that it brings, and losses and packets that leave
 abbrev pub weight : Change → ℕ
-weight (Sets now) = 0
-weight (Makes kind made) = 0
-weight Retires = 0
 weight (Accepts to body tag) = 1
 weight (Posts hook packet) = 1
-weight (Notes x) = note_weight x
+weight (Notes Refuses) = 1
+weight (Notes (Exits exit hook packet)) = 1
+weight _ = 0
 
 abbrev pub joins : Change → ℕ
-joins (Sets now) = 0
-joins (Makes kind made) = 0
-joins Retires = 0
 joins (Accepts to body tag) = if is_join body then 1 else 0
-joins (Posts hook packet) = 0
-joins (Notes x) = 0
-
-abbrev note_links : Note → ℕ
-note_links (Tells told) = 0
-note_links Refuses = 0
-note_links (Exits exit hook packet) = 0
-note_links Links = 1
+joins _ = 0
 
 abbrev pub links : Change → ℕ
-links (Sets now) = 0
-links (Makes kind made) = 0
-links Retires = 0
-links (Accepts to body tag) = 0
-links (Posts hook packet) = 0
-links (Notes x) = note_links x
+links (Notes Links) = 1
+links _ = 0
+
+abbrev pub is_make : Change → ℕ
+is_make (Makes kind made) = 1
+is_make _ = 0
 
 abbrev pub total : (Change → ℕ) → List Change → ℕ
 total f [] = 0
@@ -107,144 +80,6 @@ total f (c ∷ cs) = f c + total f cs
 total_append : (f : Change → ℕ) (xs ys : List Change) → total f (xs ++ ys) ≡ total f xs + total f ys
 total_append f [] ys = omega arith
 total_append f (x ∷ xs) ys = let more = total_append f xs ys in omega arith
-
--- hooks and links grow by one at most; what is accepted is no packet and no tick; and an ether doesn't retire
-abbrev pub Grows : NodeRecord → Change → Type 0
-Grows node (Sets now) = ((length now.hooks ≤ 1 + length node.hooks) × (links_of now.kept ≤ 1 + links_of node.kept)) × (kind_at now ≡ kind_at node)
-Grows node (Makes kind made) = (length made.hooks ≤ 1) × (links_of made.kept ≤ 1)
-Grows node Retires = kind_at node ≡ Ether → ⊥
-Grows node (Accepts to body tag) = (is_frame body ≡ false) × (is_tick body ≡ false)
-Grows node (Posts hook packet) = Unit {0}
-Grows node (Notes x) = Unit {0}
-
-pub record Costs (node : NodeRecord) (w j l m : ℕ) (cs : List Change) : Type 0 where
-  pub weight_is : total weight cs ≤ w
-  pub joins_is : total joins cs ≤ j
-  pub links_is : total links cs ≤ l
-  pub makes_is : total is_make cs ≤ m
-  pub grows : Every (Grows node) cs
-
-module _ (node : NodeRecord) where
-  free : (w j l m : ℕ) → Costs node w j l m []
-  free w j l m = record { weight_is = omega arith; joins_is = omega arith; links_is = omega arith; makes_is = omega arith; grows = tt }
-
-  both : (w j l m a b c d e f g h : ℕ) (xs ys : List Change) → a + e ≤ w → b + f ≤ j → c + g ≤ l → d + h ≤ m → Costs node a b c d xs → Costs node e f g h ys → Costs node w j l m (xs ++ ys)
-  both w j l m a b c d e f g h xs ys lw lj ll lm x y = record {
-    weight_is = let s = total_append weight xs ys in let p = x.weight_is in let q = y.weight_is in omega arith;
-    joins_is = let s = total_append joins xs ys in let p = x.joins_is in let q = y.joins_is in omega arith;
-    links_is = let s = total_append links xs ys in let p = x.links_is in let q = y.links_is in omega arith;
-    makes_is = let s = total_append is_make xs ys in let p = x.makes_is in let q = y.makes_is in omega arith;
-    grows = join_all (Grows node) xs ys x.grows y.grows;
-  }
-
-  more : (w j l m a b c d : ℕ) (cs : List Change) → a ≤ w → b ≤ j → c ≤ l → d ≤ m → Costs node a b c d cs → Costs node w j l m cs
-  more w j l m a b c d cs la lb lc ld x = record {
-    weight_is = let p = x.weight_is in omega arith;
-    joins_is = let p = x.joins_is in omega arith;
-    links_is = let p = x.links_is in omega arith;
-    makes_is = let p = x.makes_is in omega arith;
-    grows = x.grows;
-  }
-
-  -- one change in front, of these costs
-  ahead : (w j l m a b c d : ℕ) (x : Change) (cs : List Change) → weight x + a ≤ w → joins x + b ≤ j → links x + c ≤ l → is_make x + d ≤ m → Grows node x → Costs node a b c d cs → Costs node w j l m (x ∷ cs)
-  ahead w j l m a b c d x cs la lb lc ld g y = record {
-    weight_is = let p = y.weight_is in omega arith;
-    joins_is = let p = y.joins_is in omega arith;
-    links_is = let p = y.links_is in omega arith;
-    makes_is = let p = y.makes_is in omega arith;
-    grows = (g, y.grows);
-  }
-
-  one : (w j l m : ℕ) (x : Change) → weight x ≤ w → joins x ≤ j → links x ≤ l → is_make x ≤ m → Grows node x → Costs node w j l m (x ∷ [])
-  one w j l m x a b d e g = record { weight_is = omega arith; joins_is = omega arith; links_is = omega arith; makes_is = omega arith; grows = (g, tt) }
-
-  cost_flat : {A : Type 0} (f : A → List Change) (xs : List A) → ((x : A) → Costs node 1 0 0 0 (f x)) → Costs node (length xs) 0 0 0 (flat_map f xs)
-  cost_flat f [] h = free 0 0 0 0
-  cost_flat f (x ∷ xs) h = both (length (x ∷ xs)) 0 0 0 1 0 0 0 (length xs) 0 0 0 (f x) (flat_map f xs) (omega arith) (omega arith) (omega arith) (omega arith) (h x) (cost_flat f xs h)
-
-  -- Parts of effects
-
-  cost_refuse : (w : ℕ) (tag : Option ℕ) (errno : Errno) → Costs node w 0 0 0 (refuse tag errno)
-  cost_refuse w None errno = free w 0 0 0
-  cost_refuse w (Some command) errno = one w 0 0 0 _ (omega arith) (omega arith) (omega arith) (omega arith) tt
-
-  cost_exits : (hook : List ℕ) (xs : List (Exit × List ℕ)) → Costs node (length xs) 0 0 0 (exits hook xs)
-  cost_exits hook [] = free 0 0 0 0
-  cost_exits hook (x ∷ xs) = ahead (length (x ∷ xs)) 0 0 0 (length xs) 0 0 0 _ _ (omega arith) (omega arith) (omega arith) (omega arith) tt (cost_exits hook xs)
-
-  cost_posts : (xs : List (List ℕ × List ℕ)) → Costs node (length xs) 0 0 0 (posts xs)
-  cost_posts [] = free 0 0 0 0
-  cost_posts (x ∷ xs) = ahead (length (x ∷ xs)) 0 0 0 (length xs) 0 0 0 _ _ (omega arith) (omega arith) (omega arith) (omega arith) tt (cost_posts xs)
-
-  cost_counts : (b : Bool) → Costs node 1 0 0 0 (counts_unless b)
-  cost_counts true = free 1 0 0 0
-  cost_counts false = one 1 0 0 0 _ (omega arith) (omega arith) (omega arith) (omega arith) tt
-
-  cost_learns_by : (at : NodeId) (hook : List ℕ) (link : Option LinkId) (addr : Option (List ℕ)) → Costs node 1 0 0 0 (learns_by at hook link addr)
-  cost_learns_by at hook None addr = free 1 0 0 0
-  cost_learns_by at hook (Some link) None = free 1 0 0 0
-  cost_learns_by at hook (Some link) (Some addr) = one 1 0 0 0 _ (omega arith) (omega arith) (omega arith) (omega arith) (refl, refl)
-
-  cost_learns : (at : NodeId) (door : Door) (link : Option LinkId) (addr : Option (List ℕ)) → Costs node 1 0 0 0 (learns at door link addr)
-  cost_learns at Wire link addr = free 1 0 0 0
-  cost_learns at (ByHook hook) link addr = cost_learns_by at hook link addr
-
-  grows_becomes : (kept : KindState) → links_of kept ≡ links_of node.kept → kind_of_kept kept ≡ kind_of_kept node.kept → Grows node (Sets (record node { kept = kept }))
-  grows_becomes kept e kind = ((omega arith, omega arith), kind)
-
-  cost_serve : (body : Body) (hook : List ℕ) (out : Outcome) (learned : List Change) (w : ℕ) → links_of (kept_after (state_of node) body) ≡ links_of node.kept → kind_of_kept (kept_after (state_of node) body) ≡ kind_of_kept node.kept
-      → length out.sends + length out.leaves + 2 ≤ w → Costs node 1 0 0 0 learned → Costs node w 0 0 0 (serve node body hook out learned)
-  cost_serve body hook out learned w e kind le l =
-      ahead w 0 0 0 w 0 0 0 _ _ (omega arith) (omega arith) (omega arith) (omega arith) (grows_becomes (kept_after (state_of node) body) e kind)
-      (both w 0 0 0 (length out.leaves) 0 0 0 (2 + length out.sends) 0 0 0 _ _ (omega arith) (omega arith) (omega arith) (omega arith) (cost_exits hook out.leaves)
-      (both (2 + length out.sends) 0 0 0 1 0 0 0 (1 + length out.sends) 0 0 0 _ _ (omega arith) (omega arith) (omega arith) (omega arith) (cost_counts (is_fine out.errno))
-      (both (1 + length out.sends) 0 0 0 1 0 0 0 (length out.sends) 0 0 0 learned (posts out.sends) (omega arith) (omega arith) (omega arith) (omega arith) l (cost_posts out.sends))))
-
-  cost_answered : (item : Item) (msg : Message) (bytes : Option (List ℕ)) → Costs node 1 0 0 0 (answered item msg bytes)
-  cost_answered item msg None = free 1 0 0 0
-  cost_answered item msg (Some bytes) = one 1 0 0 0 _ (omega arith) (omega arith) (omega arith) (omega arith) (refl, refl)
-
-  cost_told : (w : ℕ) (msg : Message) (tag : Option ℕ) → Costs node w 0 0 0 (told_answer msg tag)
-  cost_told w msg None = free w 0 0 0
-  cost_told w msg (Some command) = one w 0 0 0 _ (omega arith) (omega arith) (omega arith) (omega arith) tt
-
-  cost_unless : (w j l m : ℕ) (e : Option Errno) (tag : Option ℕ) (cs : List Change) → Costs node w j l m cs → Costs node w j l m (unless e tag cs)
-  cost_unless w j l m None tag cs h = h
-  cost_unless w j l m (Some e) tag cs h = more w j l m w 0 0 0 _ (omega arith) (omega arith) (omega arith) (omega arith) (cost_refuse w tag e)
-
--- an ether stays without hooks
-lasting_ether : (kept : KindState) → kind_of_kept kept ≡ Ether → is_lasting kept ≡ true
-lasting_ether (EtherState s) e = refl
-lasting_ether SocketState e = refl
-lasting_ether (HubState s) e = absurd (cc e)
-lasting_ether HoleState e = absurd (cc e)
-lasting_ether EchoState e = absurd (cc e)
-lasting_ether SplitState e = absurd (cc e)
-lasting_ether (TeeState s) e = absurd (cc e)
-lasting_ether (One2manyState s) e = absurd (cc e)
-lasting_ether (BridgeState s) e = absurd (cc e)
-lasting_ether (VlanState s) e = absurd (cc e)
-lasting_ether (PatchState s) e = absurd (cc e)
-lasting_ether (BpfState s) e = absurd (cc e)
-lasting_ether (EtfState s) e = absurd (cc e)
-lasting_ether (MacsetState s) e = absurd (cc e)
-
-or_right : (a b : Bool) → (a || b) ≡ false → b ≡ false
-or_right true b e = absurd (true≢false e)
-or_right false b e = e
-
-fewer_filtered : {A : Type 0} (test : A → Bool) (xs : List A) → length (filter test xs) ≤ length xs
-fewer_filtered test [] = omega arith
-fewer_filtered {A = A} test (x ∷ xs) = by (test x) (fewer_filtered test xs)
-  where
-    by : (b : Bool) → length (filter test xs) ≤ length xs → length (cond b (x ∷ filter test xs) (filter test xs)) ≤ suc (length xs)
-    by true le = omega arith
-    by false le = omega arith
-
-cut_all_few : (kept : KindState) (hooks : List (List ℕ)) → links_of (kept_without_hooks kept hooks) ≤ links_of kept
-cut_all_few kept [] = omega arith
-cut_all_few kept (hook ∷ hooks) = let first = links_are_few.cut kept hook in let rest = cut_all_few (kept_without_hook kept hook) hooks in omega arith
 
 -- how many steps of joins wait
 abbrev pub waiting_joins : World → ℕ
@@ -258,184 +93,259 @@ fewer_times {A = A} test keep (x ∷ xs) = by (keep x) (fewer_times test keep xs
     by true le = omega arith
     by false le = omega arith
 
--- What an item's changes cost, at a node with so many hooks and links, where so many joins wait
+-- Changes that all occur, with bounds of their weight and of how many joins, links and nodes they bring
+
+pub record Brought (w : World) (item : Item) (node : NodeRecord) (body : Body) (a b c d : ℕ) (cs : List Change) : Type 0 where
+  pub occurs : Every (Occurs w item node body) cs
+  pub weight_is : total weight cs ≤ a
+  pub joins_is : total joins cs ≤ b
+  pub links_is : total links cs ≤ c
+  pub makes_is : total is_make cs ≤ d
+
+module _ {w : World} {item : Item} {node : NodeRecord} {body : Body} where
+  none : {a b c d : ℕ} → Brought w item node body a b c d []
+  none = record { occurs = tt; weight_is = omega arith; joins_is = omega arith; links_is = omega arith; makes_is = omega arith }
+
+  one : (x : Change) → Occurs w item node body x → Brought w item node body (weight x) (joins x) (links x) (is_make x) (x ∷ [])
+  one x o = record { occurs = (o, tt); weight_is = omega arith; joins_is = omega arith; links_is = omega arith; makes_is = omega arith }
+
+  both : {a b c d e f g h : ℕ} {xs ys : List Change} → Brought w item node body a b c d xs → Brought w item node body e f g h ys → Brought w item node body (a + e) (b + f) (c + g) (d + h) (xs ++ ys)
+  both {xs = xs} {ys = ys} x y = record {
+    occurs = every_join (Occurs w item node body) xs ys x.occurs y.occurs;
+    weight_is = let s = total_append weight xs ys in let p = x.weight_is in let q = y.weight_is in omega arith;
+    joins_is = let s = total_append joins xs ys in let p = x.joins_is in let q = y.joins_is in omega arith;
+    links_is = let s = total_append links xs ys in let p = x.links_is in let q = y.links_is in omega arith;
+    makes_is = let s = total_append is_make xs ys in let p = x.makes_is in let q = y.makes_is in omega arith;
+  }
+
+  ahead : {a b c d : ℕ} (x : Change) {cs : List Change} → Occurs w item node body x → Brought w item node body a b c d cs
+      → Brought w item node body (weight x + a) (joins x + b) (links x + c) (is_make x + d) (x ∷ cs)
+  ahead x {cs} o y = both (one x o) y
+
+  within : {a b c d e f g h : ℕ} {cs : List Change} → Brought w item node body a b c d cs → (a ≤ e) × (b ≤ f) × (c ≤ g) × (d ≤ h) → Brought w item node body e f g h cs
+  within x le = record {
+    occurs = x.occurs;
+    weight_is = let p = x.weight_is in let q = le.0 in omega arith;
+    joins_is = let p = x.joins_is in let q = le.1 in omega arith;
+    links_is = let p = x.links_is in let q = le.2 in omega arith;
+    makes_is = let p = x.makes_is in let q = le.3 in omega arith;
+  }
+
+-- The walk over an effect
 
 module _ (w : World) (item : Item) (node : NodeRecord) where
-  cost_reply : (k : ℕ) (msg : Message) (b : Bool) → 1 ≤ k → Costs node k 0 0 0 (reply_changes_if node item msg (outcome_of (state_of node) (Msg msg)) b)
-  cost_reply k msg false le = cost_refuse node k item.tag _
-  cost_reply k msg true le =
-      let out = outcome_of (state_of node) (Msg msg) in
-      let quiet = reply_quiet node.kept (hook_names node) msg.header.cmd msg.args in
-      let sent : length out.sends ≡ 0 = ap length quiet.0 in
-      let left : length out.leaves ≡ 0 = ap length quiet.1 in
-      ahead node k 0 0 0 1 0 0 0 _ _ (omega arith) (omega arith) (omega arith) (omega arith)
-      (grows_becomes node (kept_after (state_of node) (Msg msg)) (links_are_few.after (state_of node) (Msg msg)) (reply_kind node.kept (hook_names node) msg.header.cmd msg.args))
-      (both node 1 0 0 0 (length out.leaves) 0 0 0 (1 + length out.sends) 0 0 0 _ _ (omega arith) (omega arith) (omega arith) (omega arith) (cost_exits node [] out.leaves)
-      (both node (1 + length out.sends) 0 0 0 1 0 0 0 (length out.sends) 0 0 0 _ _ (omega arith) (omega arith) (omega arith) (omega arith) (cost_answered node item msg out.answer) (cost_posts node out.sends)))
+  abbrev B : Body → ℕ → ℕ → ℕ → ℕ → List Change → Type 0
+  B body a b c d cs = Brought w item node body a b c d cs
 
-  cost_leave : (b : Bool) (hook : Hook) → Costs node 1 0 0 0 (leave_step_unless b hook)
-  cost_leave true hook = free node 1 0 0 0
-  cost_leave false hook = one node 1 0 0 0 _ (omega arith) (omega arith) (omega arith) (omega arith) (refl, refl)
+  abbrev out_of : Body → Outcome
+  out_of body = outcome_of (state_of node) body
 
-  cost_leaves : (at : NodeId) (hooks : List Hook) → Costs node (length hooks) 0 0 0 (leave_steps at hooks)
-  cost_leaves at hooks = cost_flat node (leave_step_to at) hooks (λ hook. cost_leave (hook.peer.node.0 == at.0) hook)
+  refuse_brings : (body : Body) (tag : Option ℕ) (errno : Errno) → B body 0 0 0 0 (refuse tag errno)
+  refuse_brings body None errno = none
+  refuse_brings body (Some command) errno = one _ (Fails body command errno)
 
-  cost_after : (p : Item) (body : Body) → Costs node (if is_join body then 1 else 0) 0 0 0 (aftermath_of p body)
-  cost_after p (Frame door link packet) = free node 0 0 0 0
-  cost_after p (Msg msg) = cost_refuse node 0 p.tag enxio
-  cost_after p (Join2 hook link peer peer_hook) = one node 1 0 0 0 _ (omega arith) (omega arith) (omega arith) (omega arith) (refl, refl)
-  cost_after p (Join3 hook link) = free node 0 0 0 0
-  cost_after p (Undo hook link errno) = free node 0 0 0 0
-  cost_after p (Leave hook link) = free node 0 0 0 0
-  cost_after p (Rebind hook old new peer peer_hook) = free node 0 0 0 0
-  cost_after p (Tick seconds) = free node 0 0 0 0
-  cost_after p (Learn hook link addr) = free node 0 0 0 0
+  unless_brings : {a b c d : ℕ} (body : Body) (e : Option Errno) (cs : List Change) → (e ≡ None → B body a b c d cs) → B body a b c d (unless e item.tag cs)
+  unless_brings body None cs h = h refl
+  unless_brings body (Some e) cs h = within (refuse_brings body item.tag e) (omega arith, omega arith, omega arith, omega arith)
 
-  cost_aftermath : (items : List Item) → Costs node (times has_join items) 0 0 0 (flat_map aftermath items)
-  cost_aftermath [] = free node 0 0 0 0
-  cost_aftermath (p ∷ items) =
-      both node (times has_join (p ∷ items)) 0 0 0 (if is_join p.body then 1 else 0) 0 0 0 (times has_join items) 0 0 0 (aftermath p) (flat_map aftermath items) (omega arith) (omega arith) (omega arith) (omega arith) (cost_after p p.body) (cost_aftermath items)
+  exits_bring : (body : Body) (hook : List ℕ) (xs : List (Exit × List ℕ)) → ((x : Exit × List ℕ) → Has x xs → Has x (out_of body).leaves) → B body (length xs) 0 0 0 (exits hook xs)
+  exits_bring body hook [] h = none
+  exits_bring body hook (x ∷ xs) h = within (ahead _ (LetsOut body x.0 hook x.1 (h x (inl refl))) (exits_bring body hook xs (λ y k. h y (inr k)))) (omega arith, omega arith, omega arith, omega arith)
 
-  cost_retiring : (k : ℕ) → waiting_joins w ≤ k → (kind_at node ≡ Ether → ⊥) → Costs node k 0 0 0 (retiring w item)
-  cost_retiring k le none =
+  posts_bring : (body : Body) (xs : List (List ℕ × List ℕ)) → ((x : List ℕ × List ℕ) → Has x xs → Has x (out_of body).sends) → B body (length xs) 0 0 0 (posts xs)
+  posts_bring body [] h = none
+  posts_bring body (x ∷ xs) h = within (ahead _ (h x (inl refl)) (posts_bring body xs (λ y k. h y (inr k)))) (omega arith, omega arith, omega arith, omega arith)
+
+  counts_bring : (body : Body) (b : Bool) → B body 1 0 0 0 (counts_unless b)
+  counts_bring body true = none
+  counts_bring body false = one _ (CountsRefused body)
+
+  learns_bring : (door : Door) (link : Option LinkId) (packet : List ℕ) (addr : Option (List ℕ)) → (out_of (Frame door link packet)).learn ≡ addr → B (Frame door link packet) 1 0 0 0 (learns item.to door link addr)
+  learns_bring Wire link packet addr e = none
+  learns_bring (ByHook hook) None packet addr e = none
+  learns_bring (ByHook hook) (Some link) packet None e = none
+  learns_bring (ByHook hook) (Some link) packet (Some addr) e = one _ (ToLearn hook link packet addr e)
+
+  -- the most that comes of an outcome
+  abbrev sent : Body → ℕ
+  sent body = 2 + (length (out_of body).leaves + length (out_of body).sends)
+
+  serve_brings : (body : Body) (hook : List ℕ) (learned : List Change) → B body 1 0 0 0 learned → B body (sent body) 0 0 0 (serve node body hook (out_of body) learned)
+  serve_brings body hook learned l =
+      within (ahead _ (ByRule body) (both (exits_bring body hook (out_of body).leaves (λ x h. h)) (both (counts_bring body (is_fine (out_of body).errno)) (both l (posts_bring body (out_of body).sends (λ x h. h)))))) (omega arith, omega arith, omega arith, omega arith)
+
+  answered_brings : (msg : Message) (bytes : Option (List ℕ)) → class_of (kind_at node) msg ≡ OfKind → (out_of (Msg msg)).answer ≡ bytes → B (Msg msg) 1 0 0 0 (answered item msg bytes)
+  answered_brings msg None c e = none
+  answered_brings msg (Some bytes) c e = one _ (Replied msg bytes c e)
+
+  reply_brings : (msg : Message) (b : Bool) → class_of (kind_at node) msg ≡ OfKind → B (Msg msg) (sent (Msg msg)) 0 0 0 (reply_changes_if node item msg (out_of (Msg msg)) b)
+  reply_brings msg false c = within (refuse_brings (Msg msg) item.tag _) (omega arith, omega arith, omega arith, omega arith)
+  reply_brings msg true c =
+      let out = out_of (Msg msg) in
+      within (ahead _ (ByRule (Msg msg)) (both (exits_bring (Msg msg) [] out.leaves (λ x h. h)) (both (answered_brings msg out.answer c refl) (posts_bring (Msg msg) out.sends (λ x h. h))))) (omega arith, omega arith, omega arith, omega arith)
+
+  told_brings : (msg : Message) (tag : Option ℕ) → class_of (kind_at node) msg ≡ AnAnswer → item.tag ≡ tag → B (Msg msg) 0 0 0 0 (told_answer msg tag)
+  told_brings msg None c e = none
+  told_brings msg (Some command) c e = one _ (Hears msg command c e)
+
+  -- Removal
+
+  leave_brings : (body : Body) (b : Bool) (hook : Hook) → B body 1 0 0 0 (leave_step_unless b hook)
+  leave_brings body true hook = none
+  leave_brings body false hook = one _ (ToLeave body hook)
+
+  leaves_bring : (body : Body) (hooks : List Hook) → B body (length hooks) 0 0 0 (leave_steps item.to hooks)
+  leaves_bring body [] = none
+  leaves_bring body (hook ∷ hooks) = within (both (leave_brings body (hook.peer.node.0 == item.to.0) hook) (leaves_bring body hooks)) (omega arith, omega arith, omega arith, omega arith)
+
+  aftermath_brings : (body : Body) (p : Item) (b : Body) → Has p (items_of w item.to) → B body (if is_join b then 1 else 0) 0 0 0 (aftermath_of p b)
+  aftermath_brings body p (Msg msg) h = refuse_brings body p.tag enxio
+  aftermath_brings body p (Join2 hook link peer peer_hook) h = one _ (HasGone body p link peer peer_hook h)
+  aftermath_brings body p _ h = none
+
+  aftermaths_bring : (body : Body) (ps : List Item) → ((p : Item) → Has p ps → Has p (items_of w item.to)) → B body (times has_join ps) 0 0 0 (flat_map aftermath ps)
+  aftermaths_bring body [] h = none
+  aftermaths_bring body (p ∷ ps) h = both (aftermath_brings body p p.body (h p (inl refl))) (aftermaths_bring body ps (λ q k. h q (inr k)))
+
+  retiring_brings : (body : Body) → Goes node body → B body (waiting_joins w) 0 0 0 (retiring w item)
+  retiring_brings body goes =
       let fewer = fewer_times has_join (is_at item.to) w.pending in
-      ahead node k 0 0 0 k 0 0 0 _ _ (omega arith) (omega arith) (omega arith) (omega arith) none (more node k 0 0 0 (times has_join (items_of w item.to)) 0 0 0 _ (omega arith) (omega arith) (omega arith) (omega arith) (cost_aftermath (items_of w item.to)))
+      within (ahead _ goes (aftermaths_bring body (items_of w item.to) (λ p h. h))) (omega arith, omega arith, omega arith, omega arith)
 
-  cost_cut : (k : ℕ) (now : NodeRecord) (b : Bool) → stays now ≡ b → waiting_joins w ≤ k → length now.hooks ≤ 1 + length node.hooks → links_of now.kept ≤ 1 + links_of node.kept → kind_at now ≡ kind_at node
-      → Costs node k 0 0 0 (cut_to_if w item now b)
-  cost_cut k now true is le hooks links kind = one node k 0 0 0 _ (omega arith) (omega arith) (omega arith) (omega arith) ((hooks, links), kind)
-  cost_cut k now false is le hooks links kind =
-      cost_retiring k le (λ e. true≢false (sym (lasting_ether now.kept (kind ∙ e)) ∙ or_right (has_hooks now.hooks) (is_lasting now.kept) is))
+  cut_brings : (body : Body) (name : List ℕ) (b : Bool) → stays (without_hook node name) ≡ b → is_writer (kind_at node) body ≡ true → (stays (without_hook node name) ≡ false → Goes node body)
+      → B body (waiting_joins w) 0 0 0 (cut_to_if w item (without_hook node name) b)
+  cut_brings body name true is writes goes = within (one _ (Cut body name writes)) (omega arith, omega arith, omega arith, omega arith)
+  cut_brings body name false is writes goes = retiring_brings body (goes is)
 
-  cost_cut_hook : (k : ℕ) (name : List ℕ) → waiting_joins w ≤ k → Costs node k 0 0 0 (cut_to_if w item (without_hook node name) (stays (without_hook node name)))
-  cost_cut_hook k name le =
-      let fewer = fewer_filtered (λ h. not (is_named name h)) node.hooks in
-      let links = links_are_few.cut node.kept name in
-      cost_cut k (without_hook node name) (stays (without_hook node name)) refl le (omega arith) (omega arith) (cut_kind node.kept name)
+  outward_has : (o : Option Hook) (x : Hook) → outward w item.to o ≡ Some x → o ≡ Some x
+  outward_has None x e = absurd (cc e)
+  outward_has (Some hook) x e = by (is_outward w item.to hook) e
+    where
+      by : (b : Bool) → (if b then Some hook else None) ≡ Some x → Some hook ≡ Some x
+      by true e = e
+      by false e = absurd (cc e)
 
-  cost_bypass : (a b : List ℕ) (x y : Option Hook) → Costs node (2 + length node.hooks) 0 1 0 (bypass w item node a b x y)
-  cost_bypass a b (Some x) (Some y) =
+  found_has : (name : List ℕ) (x : Hook) → outward w item.to (hook_of node name) ≡ Some x → Has x node.hooks
+  found_has name x e = (of_find (is_named name) x node.hooks (outward_has (hook_of node name) x e)).0
+
+  bypass_brings : (msg : Message) (a b : List ℕ) (x y : Option Hook) → outward w item.to (hook_of node a) ≡ x → outward w item.to (hook_of node b) ≡ y → B (Msg msg) (2 + length node.hooks) 0 1 0 (bypass w item node a b x y)
+  bypass_brings msg a b (Some x) (Some y) ex ey =
+      let hx = found_has a x ex in
+      let hy = found_has b y ey in
       let fewer = fewer_filtered (λ h. not (is_named a h || is_named b h)) node.hooks in
-      ahead node (2 + length node.hooks) 0 1 0 (2 + length node.hooks) 0 0 0 _ _ (omega arith) (omega arith) (omega arith) (omega arith) tt
-      (ahead node (2 + length node.hooks) 0 0 0 (1 + length node.hooks) 0 0 0 _ _ (omega arith) (omega arith) (omega arith) (omega arith) (refl, refl)
-      (ahead node (1 + length node.hooks) 0 0 0 (length node.hooks) 0 0 0 _ _ (omega arith) (omega arith) (omega arith) (omega arith) (refl, refl)
-      (more node (length node.hooks) 0 0 0 (length (hooks_but a b node.hooks)) 0 0 0 _ (omega arith) (omega arith) (omega arith) (omega arith) (cost_leaves item.to (hooks_but a b node.hooks)))))
-  cost_bypass a b None y = more node (2 + length node.hooks) 0 1 0 (length node.hooks) 0 0 0 _ (omega arith) (omega arith) (omega arith) (omega arith) (cost_leaves item.to node.hooks)
-  cost_bypass a b (Some x) None = more node (2 + length node.hooks) 0 1 0 (length node.hooks) 0 0 0 _ (omega arith) (omega arith) (omega arith) (omega arith) (cost_leaves item.to node.hooks)
+      within (ahead _ (UsesLink (Msg msg)) (ahead _ (ToRebind msg x y hx hy) (ahead _ (ToRebind msg y x hy hx) (leaves_bring (Msg msg) (hooks_but a b node.hooks))))) (omega arith, omega arith, omega arith, omega arith)
+  bypass_brings msg a b None y ex ey = within (leaves_bring (Msg msg) node.hooks) (omega arith, omega arith, omega arith, omega arith)
+  bypass_brings msg a b (Some x) None ex ey = within (leaves_bring (Msg msg) node.hooks) (omega arith, omega arith, omega arith, omega arith)
 
-  cost_farewell : (f : Farewell) → farewell_of (kind_at node) ≡ f → Costs node (2 + length node.hooks + waiting_joins w) 0 1 0 (farewell w item node f)
-  cost_farewell Stay is =
-      let links = cut_all_few node.kept (hook_names node) in
-      ahead node (2 + length node.hooks + waiting_joins w) 0 1 0 (length node.hooks) 0 0 0 _ _ (omega arith) (omega arith) (omega arith) (omega arith) ((omega arith, omega arith), cut_all_kind node.kept (hook_names node)) (cost_leaves item.to node.hooks)
-  cost_farewell Plain is =
-      both node (2 + length node.hooks + waiting_joins w) 0 1 0 (length node.hooks) 0 0 0 (waiting_joins w) 0 0 0 _ _ (omega arith) (omega arith) (omega arith) (omega arith) (cost_leaves item.to node.hooks)
-      (cost_retiring (waiting_joins w) (omega arith) (λ e. let apart : Stay ≡ Plain = sym (ap farewell_of e) ∙ is in cc apart))
-  cost_farewell (Bypass a b) is =
-      both node (2 + length node.hooks + waiting_joins w) 0 1 0 (2 + length node.hooks) 0 1 0 (waiting_joins w) 0 0 0 _ _ (omega arith) (omega arith) (omega arith) (omega arith)
-      (cost_bypass a b (outward w item.to (hook_of node a)) (outward w item.to (hook_of node b)))
-      (cost_retiring (waiting_joins w) (omega arith) (λ e. let apart : Stay ≡ Bypass a b = sym (ap farewell_of e) ∙ is in cc apart))
+  abbrev by_farewell : ℕ
+  by_farewell = 2 + length node.hooks + waiting_joins w
 
-  grows_with : (name : List ℕ) (link : LinkId) (peer : NodeId) (peer_hook : List ℕ) (joined : Bool) → Grows node (Sets (with_hook node (new_hook name link peer peer_hook joined)))
-  grows_with name link peer peer_hook joined =
-      let more = length-append node.hooks (new_hook name link peer peer_hook joined ∷ []) in
-      let few = links_are_few.made node.kept name in
-      ((omega arith, omega arith), made_kind node.kept name)
+  farewell_brings : (msg : Message) (f : Farewell) → farewell_of (kind_at node) ≡ f → IsOrder node msg Shutdown → B (Msg msg) by_farewell 0 1 0 (farewell w item node f)
+  farewell_brings msg Stay is order = within (ahead _ (Emptied msg order) (leaves_bring (Msg msg) node.hooks)) (omega arith, omega arith, omega arith, omega arith)
+  farewell_brings msg Plain is order =
+      within (both (leaves_bring (Msg msg) node.hooks) (retiring_brings (Msg msg) (ShutDown msg order (λ e. let apart : Stay ≡ Plain = sym e ∙ is in cc apart)))) (omega arith, omega arith, omega arith, omega arith)
+  farewell_brings msg (Bypass a b) is order =
+      within (both (bypass_brings msg a b _ _ refl refl) (retiring_brings (Msg msg) (ShutDown msg order (λ e. let apart : Stay ≡ Bypass a b = sym e ∙ is in cc apart)))) (omega arith, omega arith, omega arith, omega arith)
 
-  cost_mkpeer : (k : ℕ) (kind : Option Kind) (ours theirs : List ℕ) → Costs node k 0 1 1 (mkpeer w item node kind ours theirs)
-  cost_mkpeer k None ours theirs = more node k 0 1 1 k 0 0 0 _ (omega arith) (omega arith) (omega arith) (omega arith) (cost_refuse node k item.tag enxio)
-  cost_mkpeer k (Some kind) ours theirs =
-      let blank = links_are_few.blank kind in
-      let few = links_are_few.made (blank_kept kind) theirs in
-      cost_unless node k 0 1 1 (mkpeer_refusal w node kind ours theirs) item.tag (makes w item node kind ours theirs)
-      (ahead node k 0 1 1 k 0 1 1 _ _ (omega arith) (omega arith) (omega arith) (omega arith) (grows_with ours (link_id w.next_link) (next_node w) theirs true)
-      (ahead node k 0 1 1 k 0 1 0 _ _ (omega arith) (omega arith) (omega arith) (omega arith) (omega arith, omega arith)
-      (one node k 0 1 0 _ (omega arith) (omega arith) (omega arith) (omega arith) tt)))
+  -- Orders
 
-  cost_connect_to : (k : ℕ) (peer : Option NodeId) (ours theirs : List ℕ) → 1 ≤ k → Costs node k 1 1 0 (connect_to w item node peer ours theirs)
-  cost_connect_to k None ours theirs le = more node k 1 1 0 k 0 0 0 _ (omega arith) (omega arith) (omega arith) (omega arith) (cost_refuse node k item.tag enoent)
-  cost_connect_to k (Some peer) ours theirs le =
-      cost_unless node k 1 1 0 (hook_refusal node ours) item.tag (connect_changes w item node peer ours theirs)
-      (ahead node k 1 1 0 k 1 1 0 _ _ (omega arith) (omega arith) (omega arith) (omega arith) (grows_with ours (link_id w.next_link) peer theirs false)
-      (ahead node k 1 1 0 0 0 1 0 _ _ (omega arith) (omega arith) (omega arith) (omega arith) (refl, refl)
-      (one node 0 0 1 0 _ (omega arith) (omega arith) (omega arith) (omega arith) tt)))
+  mkpeer_brings : (msg : Message) (name ours theirs : List ℕ) (kind : Option Kind) → kind_named name ≡ kind → IsOrder node msg (Mkpeer name ours theirs) → B (Msg msg) 0 0 1 1 (mkpeer w item node kind ours theirs)
+  mkpeer_brings msg name ours theirs None is order = within (refuse_brings (Msg msg) item.tag enxio) (omega arith, omega arith, omega arith, omega arith)
+  mkpeer_brings msg name ours theirs (Some kind) is order = unless_brings (Msg msg) (mkpeer_refusal w node kind ours theirs) (makes w item node kind ours theirs) (λ free. by (record { order = order; kind_is = is; free = free }))
+    where
+      by : MakesPeer w node msg name ours theirs kind → B (Msg msg) 0 0 1 1 (makes w item node kind ours theirs)
+      by made = ahead _ (WithPeer msg name ours theirs kind made) (ahead _ (Peer msg name ours theirs kind made) (one _ (UsesLink (Msg msg))))
 
-  cost_connect : (k : ℕ) (address : Option Address) (ours theirs : List ℕ) → 1 ≤ k → Costs node k 1 1 0 (connect w item node address ours theirs)
-  cost_connect k None ours theirs le = more node k 1 1 0 k 0 0 0 _ (omega arith) (omega arith) (omega arith) (omega arith) (cost_refuse node k item.tag einval)
-  cost_connect k (Some address) ours theirs le = cost_connect_to k (walk w item.to address) ours theirs le
+  connect_brings : (msg : Message) (path ours theirs : List ℕ) (address : Option Address) → IsOrder node msg (Connect path ours theirs) → B (Msg msg) 1 1 1 0 (connect w item node address ours theirs)
+  connect_brings msg path ours theirs None order = within (refuse_brings (Msg msg) item.tag einval) (omega arith, omega arith, omega arith, omega arith)
+  connect_brings msg path ours theirs (Some address) order = by (walk w item.to address) refl
+    where
+      by : (peer : Option NodeId) → walk w item.to address ≡ peer → B (Msg msg) 1 1 1 0 (connect_to w item node peer ours theirs)
+      by None e = within (refuse_brings (Msg msg) item.tag enoent) (omega arith, omega arith, omega arith, omega arith)
+      by (Some peer) e = unless_brings (Msg msg) (hook_refusal node ours) (connect_changes w item node peer ours theirs)
+          (λ _. ahead _ (WithHook msg path ours theirs address peer order e) (ahead _ (ToJoin msg path ours theirs peer order) (one _ (UsesLink (Msg msg)))))
 
-  cost_rmhook : (k : ℕ) (hook : Option Hook) → 1 + waiting_joins w ≤ k → Costs node k 0 0 0 (rmhook w item node hook)
-  cost_rmhook k None le = cost_refuse node k item.tag enoent
-  cost_rmhook k (Some hook) le = ahead node k 0 0 0 (waiting_joins w) 0 0 0 _ _ (omega arith) (omega arith) (omega arith) (omega arith) (refl, refl) (cost_cut_hook (waiting_joins w) hook.name (omega arith))
-
-  grows_changed : (name : List ℕ) (change : Hook → Hook) → Grows node (Sets (with_changed_hook node name change))
-  grows_changed name change = let same = length-map node.hooks (change_hook name change) in ((omega arith, omega arith), refl)
+  rmhook_brings : (msg : Message) (name : List ℕ) (hook : Option Hook) → IsOrder node msg (Rmhook name) → B (Msg msg) (1 + waiting_joins w) 0 0 0 (rmhook w item node hook)
+  rmhook_brings msg name None order = within (refuse_brings (Msg msg) item.tag enoent) (omega arith, omega arith, omega arith, omega arith)
+  rmhook_brings msg name (Some hook) order =
+      ahead _ (ToLeave (Msg msg) hook) (cut_brings (Msg msg) hook.name _ refl (order_writes node msg (Rmhook name) order (λ question e. cc e)) (LastRemoved msg name hook.name order))
 
   -- as many as an item's changes can bring
+  abbrev reach : Body → ℕ
+  reach (Frame door link packet) = sent (Frame door link packet)
+  reach body = sent body + length node.hooks + waiting_joins w
+
+  order_brings : (msg : Message) (order : Order) → IsOrder node msg order → B (Msg msg) (reach (Msg msg)) 1 1 1 (carry_out w item node msg order)
+  order_brings msg Shutdown is = within (farewell_brings msg (farewell_of (kind_at node)) refl is) (omega arith, omega arith, omega arith, omega arith)
+  order_brings msg (Mkpeer name ours theirs) is = within (mkpeer_brings msg name ours theirs (kind_named name) refl is) (omega arith, omega arith, omega arith, omega arith)
+  order_brings msg (Connect path ours theirs) is = within (connect_brings msg path ours theirs (read_address path) is) (omega arith, omega arith, omega arith, omega arith)
+  order_brings msg (Rename name) is = unless_brings (Msg msg) (rename_refusal w node name) _ (λ _. within (one _ (Renamed msg name is)) (omega arith, omega arith, omega arith, omega arith))
+  order_brings msg (Rmhook name) is = within (rmhook_brings msg name (hook_of node name) is) (omega arith, omega arith, omega arith, omega arith)
+  order_brings msg (Asks question) is = within (one _ (Answered msg question is)) (omega arith, omega arith, omega arith, omega arith)
+
+  ordered_brings : (msg : Message) (r : Result Order Errno) → class_of (kind_at node) msg ≡ AnOrder → read_order msg.header.cmd msg.args ≡ r → B (Msg msg) (reach (Msg msg)) 1 1 1 (ordered_by w item node msg r)
+  ordered_brings msg (Ok order) c e = order_brings msg order (record { class = c; reads = e })
+  ordered_brings msg (Err errno) c e = within (refuse_brings (Msg msg) item.tag errno) (omega arith, omega arith, omega arith, omega arith)
+
+  message_brings : (msg : Message) (class : MessageClass) → class_of (kind_at node) msg ≡ class → B (Msg msg) (reach (Msg msg)) 1 1 1 (message_by w item node msg class)
+  message_brings msg AnAnswer c = within (told_brings msg item.tag c refl) (omega arith, omega arith, omega arith, omega arith)
+  message_brings msg AnOrder c = ordered_brings msg (read_order msg.header.cmd msg.args) c refl
+  message_brings msg OfKind c = within (reply_brings msg (is_fine (out_of (Msg msg)).errno) c) (omega arith, omega arith, omega arith, omega arith)
+  message_brings msg Foreign c = within (refuse_brings (Msg msg) item.tag einval) (omega arith, omega arith, omega arith, omega arith)
+
+  -- The steps of joins and removals
+
+  join_brings : (e : Option Errno) (hook : List ℕ) (link : LinkId) (peer : NodeId) (peer_hook : List ℕ) → B (Join2 hook link peer peer_hook) 1 0 0 0 (join item node e hook link peer peer_hook)
+  join_brings None hook link peer peer_hook = ahead _ (Joined hook link peer peer_hook) (one _ (HasJoined hook link peer peer_hook))
+  join_brings (Some errno) hook link peer peer_hook = one _ (HasRefused hook link peer peer_hook errno)
+
+  settle_brings : (hook : List ℕ) (link : LinkId) (h : Option Hook) → B (Join3 hook link) 0 0 0 0 (settle node h)
+  settle_brings hook link None = none
+  settle_brings hook link (Some h) = one _ (Settled hook link h.name)
+
+  undo_brings : (body : Body) (h : Option Hook) (errno : Errno) → is_writer (kind_at node) body ≡ true → B body 0 0 0 0 (undo item node h errno)
+  undo_brings body None errno writes = none
+  undo_brings body (Some h) errno writes = ahead _ (Cut body h.name writes) (refuse_brings body item.tag errno)
+
+  remove_brings : (hook : List ℕ) (link : LinkId) (h : Option Hook) → B (Leave hook link) (waiting_joins w) 0 0 0 (remove_peer_hook w item node h)
+  remove_brings hook link None = none
+  remove_brings hook link (Some h) = cut_brings (Leave hook link) h.name _ refl refl (LastLost hook link h.name)
+
+  rebind_brings : (hook : List ℕ) (old new : LinkId) (peer : NodeId) (peer_hook : List ℕ) (h : Option Hook) → B (Rebind hook old new peer peer_hook) 0 0 0 0 (rebind node h new peer peer_hook)
+  rebind_brings hook old new peer peer_hook None = none
+  rebind_brings hook old new peer peer_hook (Some h) = one _ (Bound hook old new peer peer_hook h.name)
+
+  learn_brings : (body : Body) (h : Option Hook) → B body 0 0 0 0 (learn node h body)
+  learn_brings body None = none
+  learn_brings body (Some h) = one _ (ByRule body)
+
+  pub effect_brings : (body : Body) → B body (reach body) 1 1 1 (effect_at w item node body)
+  effect_brings (Frame door link packet) = within (serve_brings (Frame door link packet) (door_name door) _ (learns_bring door link packet _ refl)) (omega arith, omega arith, omega arith, omega arith)
+  effect_brings (Msg msg) = message_brings msg (class_of (kind_at node) msg) refl
+  effect_brings (Join2 hook link peer peer_hook) = within (join_brings (hook_refusal node hook) hook link peer peer_hook) (omega arith, omega arith, omega arith, omega arith)
+  effect_brings (Join3 hook link) = within (settle_brings hook link (linked_hook node hook link)) (omega arith, omega arith, omega arith, omega arith)
+  effect_brings (Undo hook link errno) = within (undo_brings (Undo hook link errno) (linked_hook node hook link) errno refl) (omega arith, omega arith, omega arith, omega arith)
+  effect_brings (Leave hook link) = within (remove_brings hook link (linked_hook node hook link)) (omega arith, omega arith, omega arith, omega arith)
+  effect_brings (Rebind hook old new peer peer_hook) = within (rebind_brings hook old new peer peer_hook (linked_hook node hook old)) (omega arith, omega arith, omega arith, omega arith)
+  effect_brings (Tick seconds) = within (serve_brings (Tick seconds) [] [] none) (omega arith, omega arith, omega arith, omega arith)
+  effect_brings (Learn hook link addr) = within (learn_brings (Learn hook link addr) (linked_hook node hook link)) (omega arith, omega arith, omega arith, omega arith)
+
+  -- every change of an effect occurs
+  pub effect_occurs : (body : Body) → Every (Occurs w item node body) (effect_at w item node body)
+  effect_occurs body = (effect_brings body).occurs
+
+  -- and of a packet that is no longer than the longest not much comes
   abbrev pub most : ℕ
   most = 68 + (length node.hooks + links_of node.kept) + waiting_joins w
 
-  cost_order : (msg : Message) (order : Order) → Costs node most 1 1 1 (carry_out w item node msg order)
-  cost_order msg Shutdown = more node most 1 1 1 (2 + length node.hooks + waiting_joins w) 0 1 0 _ (omega arith) (omega arith) (omega arith) (omega arith) (cost_farewell (farewell_of (kind_at node)) refl)
-  cost_order msg (Mkpeer kind ours theirs) = more node most 1 1 1 most 0 1 1 _ (omega arith) (omega arith) (omega arith) (omega arith) (cost_mkpeer most (kind_named kind) ours theirs)
-  cost_order msg (Connect path ours theirs) = more node most 1 1 1 most 1 1 0 _ (omega arith) (omega arith) (omega arith) (omega arith) (cost_connect most (read_address path) ours theirs (omega arith))
-  cost_order msg (Rename name) = cost_unless node most 1 1 1 (rename_refusal w node name) item.tag _ (one node most 1 1 1 _ (omega arith) (omega arith) (omega arith) (omega arith) ((omega arith, omega arith), refl))
-  cost_order msg (Rmhook hook) = more node most 1 1 1 most 0 0 0 _ (omega arith) (omega arith) (omega arith) (omega arith) (cost_rmhook most (hook_of node hook) (omega arith))
-  cost_order msg (Asks question) = one node most 1 1 1 _ (omega arith) (omega arith) (omega arith) (omega arith) (refl, refl)
-
-  cost_orders : (msg : Message) (r : Result Order Errno) → Costs node most 1 1 1 (ordered_by w item node msg r)
-  cost_orders msg (Ok order) = cost_order msg order
-  cost_orders msg (Err errno) = more node most 1 1 1 most 0 0 0 _ (omega arith) (omega arith) (omega arith) (omega arith) (cost_refuse node most item.tag errno)
-
-  cost_message : (msg : Message) (class : MessageClass) → Costs node most 1 1 1 (message_by w item node msg class)
-  cost_message msg AnAnswer = more node most 1 1 1 most 0 0 0 _ (omega arith) (omega arith) (omega arith) (omega arith) (cost_told node most msg item.tag)
-  cost_message msg AnOrder = cost_orders msg (read_order msg.header.cmd msg.args)
-  cost_message msg OfKind = more node most 1 1 1 most 0 0 0 _ (omega arith) (omega arith) (omega arith) (omega arith) (cost_reply most msg (is_fine (outcome_of (state_of node) (Msg msg)).errno) (omega arith))
-  cost_message msg Foreign = more node most 1 1 1 most 0 0 0 _ (omega arith) (omega arith) (omega arith) (omega arith) (cost_refuse node most item.tag einval)
-
-  cost_join : (e : Option Errno) (hook : List ℕ) (link : LinkId) (peer : NodeId) (peer_hook : List ℕ) → Costs node 1 0 0 0 (join item node e hook link peer peer_hook)
-  cost_join None hook link peer peer_hook = ahead node 1 0 0 0 1 0 0 0 _ _ (omega arith) (omega arith) (omega arith) (omega arith) (grows_with hook link peer peer_hook true) (one node 1 0 0 0 _ (omega arith) (omega arith) (omega arith) (omega arith) (refl, refl))
-  cost_join (Some errno) hook link peer peer_hook = one node 1 0 0 0 _ (omega arith) (omega arith) (omega arith) (omega arith) (refl, refl)
-
-  cost_settle : (hook : Option Hook) → Costs node 0 0 0 0 (settle node hook)
-  cost_settle None = free node 0 0 0 0
-  cost_settle (Some hook) = one node 0 0 0 0 _ (omega arith) (omega arith) (omega arith) (omega arith) (grows_changed hook.name settle_hook)
-
-  cost_undo : (hook : Option Hook) (errno : Errno) → Costs node 0 0 0 0 (undo item node hook errno)
-  cost_undo None errno = free node 0 0 0 0
-  cost_undo (Some hook) errno =
-      let fewer = fewer_filtered (λ h. not (is_named hook.name h)) node.hooks in
-      let links = links_are_few.cut node.kept hook.name in
-      ahead node 0 0 0 0 0 0 0 0 _ _ (omega arith) (omega arith) (omega arith) (omega arith) ((omega arith, omega arith), cut_kind node.kept hook.name) (cost_refuse node 0 item.tag errno)
-
-  cost_remove : (hook : Option Hook) → Costs node (waiting_joins w) 0 0 0 (remove_peer_hook w item node hook)
-  cost_remove None = free node (waiting_joins w) 0 0 0
-  cost_remove (Some hook) = cost_cut_hook (waiting_joins w) hook.name (omega arith)
-
-  cost_rebind : (hook : Option Hook) (link : LinkId) (peer : NodeId) (peer_hook : List ℕ) → Costs node 0 0 0 0 (rebind node hook link peer peer_hook)
-  cost_rebind None link peer peer_hook = free node 0 0 0 0
-  cost_rebind (Some hook) link peer peer_hook = one node 0 0 0 0 _ (omega arith) (omega arith) (omega arith) (omega arith) (grows_changed hook.name (bind_to link peer peer_hook))
-
-  cost_learn : (hook : Option Hook) (body : Body) → links_of (kept_after (state_of node) body) ≡ links_of node.kept → kind_of_kept (kept_after (state_of node) body) ≡ kind_of_kept node.kept → Costs node 0 0 0 0 (learn node hook body)
-  cost_learn None body e kind = free node 0 0 0 0
-  cost_learn (Some hook) body e kind = one node 0 0 0 0 _ (omega arith) (omega arith) (omega arith) (omega arith) (grows_becomes node (kept_after (state_of node) body) e kind)
-
-  pub cost_effect : (body : Body) → PacketFits body → Costs node most 1 1 1 (effect_at w item node body)
+  pub cost_effect : (body : Body) → PacketFits body → B body most 1 1 1 (effect_at w item node body)
   cost_effect (Frame door link packet) fits =
-      let out = outcome_of (state_of node) (Frame door link packet) in
-      let bounded = packets_are_bounded (state_of node) door link packet fits in
-      let few = bounded.few in
+      let few = (packets_are_bounded (state_of node) door link packet fits).few in
       let names = length-map node.hooks (λ (h : Hook). h.name) in
-      more node most 1 1 1 most 0 0 0 _ (omega arith) (omega arith) (omega arith) (omega arith)
-      (cost_serve node (Frame door link packet) (door_name door) out (learns item.to door link out.learn) most (links_are_few.after (state_of node) (Frame door link packet))
-      (passed_kind node.kept (hook_names node) door out.counts) (omega arith) (cost_learns node item.to door link out.learn))
-  cost_effect (Msg msg) fits = cost_message msg (class_of (kind_at node) msg)
-  cost_effect (Join2 hook link peer peer_hook) fits = more node most 1 1 1 1 0 0 0 _ (omega arith) (omega arith) (omega arith) (omega arith) (cost_join (hook_refusal node hook) hook link peer peer_hook)
-  cost_effect (Join3 hook link) fits = more node most 1 1 1 0 0 0 0 _ (omega arith) (omega arith) (omega arith) (omega arith) (cost_settle (linked_hook node hook link))
-  cost_effect (Undo hook link errno) fits = more node most 1 1 1 0 0 0 0 _ (omega arith) (omega arith) (omega arith) (omega arith) (cost_undo (linked_hook node hook link) errno)
-  cost_effect (Leave hook link) fits = more node most 1 1 1 (waiting_joins w) 0 0 0 _ (omega arith) (omega arith) (omega arith) (omega arith) (cost_remove (linked_hook node hook link))
-  cost_effect (Rebind hook old new peer peer_hook) fits = more node most 1 1 1 0 0 0 0 _ (omega arith) (omega arith) (omega arith) (omega arith) (cost_rebind (linked_hook node hook old) new peer peer_hook)
-  cost_effect (Tick seconds) fits =
-      more node most 1 1 1 most 0 0 0 _ (omega arith) (omega arith) (omega arith) (omega arith)
-      (cost_serve node (Tick seconds) [] (outcome_of (state_of node) (Tick seconds)) [] most (links_are_few.after (state_of node) (Tick seconds)) (ticked_kind node.kept seconds) (omega arith) (free node 1 0 0 0))
-  cost_effect (Learn hook link addr) fits =
-      more node most 1 1 1 0 0 0 0 _ (omega arith) (omega arith) (omega arith) (omega arith) (cost_learn (linked_hook node hook link) (Learn hook link addr) (links_are_few.after (state_of node) (Learn hook link addr)) (learned_kind node.kept hook addr))
+      within (effect_brings (Frame door link packet)) (omega arith, omega arith, omega arith, omega arith)
+  cost_effect (Msg msg) fits =
+      let quiet = reply_quiet node.kept (hook_names node) msg.header.cmd msg.args in
+      let sent : length (out_of (Msg msg)).sends ≡ 0 = ap length quiet.0 in
+      let left : length (out_of (Msg msg)).leaves ≡ 0 = ap length quiet.1 in
+      within (effect_brings (Msg msg)) (omega arith, omega arith, omega arith, omega arith)
+  cost_effect body fits = within (effect_brings body) (omega arith, omega arith, omega arith, omega arith)

@@ -1,10 +1,9 @@
 -- What is known of each world of a run: each change that owes it, and each input that fits, keeps it.
-use Rattle.std.proofs.Common.{◌≡◌, ◌≢◌, ◌⊎◌, ℕ, zero, suc, ◌+◌, ◌<◌, ◌≤◌, ◌==◌, Bool, true, false, not, nat_le, nat_lt, if◌then◌else◌, List, [], ◌∷◌, ◌++◌, length, map, set, get_or, is_some, slice_get, refl, sym, ap, ◌∙◌, inl, inr, ⊎_elim, subst, arith, true≢false, length-set, length-append}
-use Rattle.std.specs.List.{filter, list_any}
+use Rattle.std.proofs.Common.{◌≡◌, ◌≢◌, ℕ, zero, suc, ◌+◌, ◌<◌, ◌≤◌, Bool, true, false, not, nat_le, nat_lt, List, [], ◌∷◌, ◌++◌, length, map, set, get_or, is_some, slice_get, refl, sym, ap, ◌∙◌, ⊎_elim, subst, arith, true≢false, length-set, length-append}
+use Rattle.std.specs.List.{filter}
 use Rattle.std.specs.declared.option.Option.{Option}
 use Rattle.std.specs.declared.option.Option.TheVariants.{None, Some}
 use Rattle.std.proofs.lemmas.Bool.{eq-eqb, cases_eq}
-use Rattle.ng_base.specs.declared.errno.Errno.{Errno}
 use Rattle.ng_base.specs.declared.event.Event.{Event}
 use Rattle.ng_base.specs.declared.event.Event.TheVariants.{Feed, Take, Back, Apply, Stop}
 use Rattle.ng_base.specs.declared.ids.ItemId.{ItemId}
@@ -14,7 +13,6 @@ use Rattle.ng_base.specs.declared.kind.Kind.{Kind}
 use Rattle.ng_base.specs.declared.kind.Kind.TheVariants.{Ether, Socket}
 use Rattle.ng_machine.specs.declared.body.Body.{Body}
 use Rattle.ng_machine.specs.declared.body.Body.TheVariants.{Frame, Msg, Join2, Join3, Undo, Leave, Rebind, Tick, Learn}
-use Rattle.ng_machine.specs.declared.body.Door.{Door}
 use Rattle.ng_machine.specs.declared.body.Door.TheVariants.{Wire, Hook as ByHook}
 use Rattle.ng_machine.specs.declared.body.Exit.{Exit}
 use Rattle.ng_machine.specs.declared.body.Exit.TheVariants.{Wire as ToWire, Host, Reader}
@@ -27,23 +25,24 @@ use Rattle.ng_machine.specs.declared.told.Told.{Told}
 use Rattle.ng_machine.specs.Words.{Has, Every}
 use Rattle.ng_machine.specs.Body.{is_frame, is_writer, is_at, has_id, has_tag, is_tag}
 use Rattle.ng_machine.specs.Bounds.{Fits}
-use Rattle.ng_machine.specs.KnownRun.{SpeaksBelow, PacketFits, WireIsEther, PeersBelow, ToldFits, PortFits, FitsRequest, FitsInput, AreFit, IsKnown, RunsAreKnown}
-use Rattle.ng_machine.specs.World.{World, NodeRecord, Port, blank_node, blank_port, kind_at, node_at, is_there, hook_at, node_id, port_node, port_of, own_node, start_of}
-use Rattle.ng_path.specs.Address.{Address, read_address}
-use Rattle.ng_machine.specs.Walk.{walk}
-use Rattle.ng_machine.specs.Change.{Change, Sets, Makes, Retires, Accepts, Posts, Notes, Note, Tells, Refuses, Exits, Links, accept, accept_at, arrival, send_if, send_joined, send_by, post, lose, frames, most_frames, tell, port_at, set_port, wire_if, read_if, hand_up, leave, spool_with, most_spool, note, set_node, retire, change, change_all}
+use Rattle.ng_machine.specs.KnownRun.{SpeaksBelow, PacketFits, WireIsEther, PeersBelow, ToldFits, PortFits, FitsRequest, FitsInput, AreFit, RunsAreKnown}
+use Rattle.ng_machine.specs.World.{World, NodeRecord, Port, blank_node, blank_port, kind_at, node_at, is_there, hook_at, node_id, port_node, port_of, own_node}
+use Rattle.ng_machine.specs.Change.{Change, Sets, Makes, Retires, Accepts, Posts, Notes, Note, Tells, Refuses, Exits, Links, accept, accept_at, arrival, send_if, send_joined, send_by, frames, most_frames, tell, port_at, wire_if, read_if, hand_up, leave, spool_with, most_spool, note, set_node, retire, change, change_all}
 use Rattle.ng_machine.specs.Effect.{effect, effect_at, is_hook_gone, take_out, finish, drop_hook_gone, apply_if, apply_item, apply_found, apply}
-use Rattle.ng_machine.specs.Feed.{RunInput, Reading, NoSuchMessage, BadArguments, Reads, Request, RefusedFor, Helps, Nothing, Orders, Asks, Writes, request_of, refuse_line, send_message, order_to, order_at, ask_read, ask_row, ask_to, ask_at, write_to, write_if, write_by, feed_request, begin_command, feed_command, arrive, feed_packet, is_bridge, feed_tick, feed_ticks, feed_input, feed_next}
-use Rattle.ng_machine.specs.Run.{RunState, Taken, after, after_all, beginning, stop}
+use Rattle.ng_machine.specs.Feed.{RunInput, Request, request_of, send_message, begin_command, feed_command, arrive, feed_packet, feed_ticks, feed_input, feed_next}
+use Rattle.ng_machine.specs.Run.{RunState, Taken, after, after_all, beginning}
 use Rattle.ng_machine.specs.Orderly.{IsTaken, IsSettled, MayFeedInput, MayFeedNext, AllowedEvent, OrderlyFrom}
 use Rattle.ng_machine.specs.Laws.{Setting, start, run_state_after, world_after, IsJournal}
 use Rattle.ng_machine.proofs.Standing.{in_pushed, of_filter}
-use Rattle.ng_machine.proofs.NodeLists.{get, get_here, get_apart, get_before, get_gone, get_last, some_none, given_number, same_row, still_given, more_given}
-use Rattle.ng_machine.proofs.Quieted.{Quietly, input_quietly, accepts_quietly, posts_quietly, notes_quietly}
+use Rattle.ng_machine.proofs.NodeLists.{get, get_here, get_apart, get_before, get_gone, get_last, some_none, given_number, same_row, still_given}
+use Rattle.ng_machine.proofs.Quieted.{input_quietly, accepts_quietly, posts_quietly, notes_quietly}
 use Rattle.ng_machine.proofs.Kept.{SoundAt, OnKind, on_set, on_make, on_retire, nodes_quietly}
 use Rattle.ng_machine.proofs.Moves.{KeptAt, kept_event, held_item}
 use Rattle.ng_machine.proofs.Ordering.{kept_start, kept_all}
-use Rattle.ng_machine.proofs.Owing.{every_push, every_imply, TagIs, no_tag, NoteFits, Owes, count_makes, is_make, IsReady, owes_effect}
+use Rattle.ng_machine.proofs.Costing.{is_make}
+use Rattle.ng_machine.proofs.Every.{every_push, every_imply}
+use Rattle.ng_machine.proofs.Requests.{Requested, Refuses, Explains, Ends, ByOrder, ByName, ByHook as Sends, requested, ticks_keep}
+use Rattle.ng_machine.proofs.Owing.{TagIs, no_tag, NoteFits, Owes, count_makes, IsReady, owes_effect}
 
 -- Lists of which each element meets something
 
@@ -73,38 +72,16 @@ WireOn nodes n (Learn hook link addr) = Unit {0}
 
 wire_on : (a b : List (Option NodeRecord)) (n : ℕ) (body : Body) → (OnKind n Ether a → OnKind n Ether b) → WireOn a n body → WireOn b n body
 wire_on a b n (Frame Wire link packet) f h = f h
-wire_on a b n (Frame (ByHook hook) link packet) f h = tt
-wire_on a b n (Msg msg) f h = tt
-wire_on a b n (Join2 hook link peer peer_hook) f h = tt
-wire_on a b n (Join3 hook link) f h = tt
-wire_on a b n (Undo hook link errno) f h = tt
-wire_on a b n (Leave hook link) f h = tt
-wire_on a b n (Rebind hook old new peer peer_hook) f h = tt
-wire_on a b n (Tick seconds) f h = tt
-wire_on a b n (Learn hook link addr) f h = tt
+wire_on a b n _ f h = tt
 
 -- a body that is no packet fits, and comes by no wire
 step_fits : (body : Body) → is_frame body ≡ false → PacketFits body
 step_fits (Frame door link packet) e = absurd (true≢false e)
-step_fits (Msg msg) e = tt
-step_fits (Join2 hook link peer peer_hook) e = tt
-step_fits (Join3 hook link) e = tt
-step_fits (Undo hook link errno) e = tt
-step_fits (Leave hook link) e = tt
-step_fits (Rebind hook old new peer peer_hook) e = tt
-step_fits (Tick seconds) e = tt
-step_fits (Learn hook link addr) e = tt
+step_fits _ e = tt
 
 step_wire : (nodes : List (Option NodeRecord)) (n : ℕ) (body : Body) → is_frame body ≡ false → WireOn nodes n body
 step_wire nodes n (Frame door link packet) e = absurd (true≢false e)
-step_wire nodes n (Msg msg) e = tt
-step_wire nodes n (Join2 hook link peer peer_hook) e = tt
-step_wire nodes n (Join3 hook link) e = tt
-step_wire nodes n (Undo hook link errno) e = tt
-step_wire nodes n (Leave hook link) e = tt
-step_wire nodes n (Rebind hook old new peer peer_hook) e = tt
-step_wire nodes n (Tick seconds) e = tt
-step_wire nodes n (Learn hook link addr) e = tt
+step_wire nodes n _ e = tt
 
 speaks_more : (B C : ℕ) (body : Body) → B ≤ C → SpeaksBelow B body → SpeaksBelow C body
 speaks_more B C (Frame door link packet) le h = tt
@@ -334,65 +311,20 @@ module _ (B c ports : ℕ) where
 
   -- Inputs
 
-  known_refused : (w : World) (command : ℕ) (errno : Errno) (why : List ℕ) → Known w → Known (refuse_line w command errno why)
-  known_refused w command errno why K = known_tell w _ tt K
-
   known_message : (w : World) (to : NodeId) (o : Option NodeRecord) (command cookie number : ℕ) (name args : List ℕ) → command ≡ c → Known w → Known (send_message w to o command cookie number name args)
   known_message w to o command cookie number name args is K =
       known_accept_at w to o _ (Some command) w.clock tt tt tt (λ t e. let same : command ≡ t = cc e in sym same ∙ is) K
 
-  known_order_to : (w : World) (command : ℕ) (to : Option NodeId) (number : ℕ) (name args : List ℕ) → command ≡ c → Known w → Known (order_to w command to number name args)
-  known_order_to w command None number name args is K = known_refused w command _ _ K
-  known_order_to w command (Some to) number name args is K = known_message w to (node_at w to) command _ number name args is K
-
-  known_order : (w : World) (command : ℕ) (address : Option Address) (number : ℕ) (name args : List ℕ) → command ≡ c → Known w → Known (order_at w command address number name args)
-  known_order w command None number name args is K = known_refused w command _ _ K
-  known_order w command (Some address) number name args is K = known_order_to w command (walk w own_node address) number name args is K
-
-  known_ask_read : (w : World) (command : ℕ) (to : NodeId) (o : Option NodeRecord) (name : List ℕ) (r : Reading) → command ≡ c → Known w → Known (ask_read w command to o name r)
-  known_ask_read w command to o name NoSuchMessage is K = known_refused w command _ _ K
-  known_ask_read w command to o name (BadArguments why) is K = known_refused w command _ _ K
-  known_ask_read w command to o name (Reads cookie number args) is K = known_message w to o command cookie number name args is K
-
-  known_ask_row : (given : RunInput) (w : World) (command : ℕ) (to : NodeId) (o : Option NodeRecord) (name text : List ℕ) → command ≡ c → Known w → Known (ask_row given w command to o name text)
-  known_ask_row given w command to None name text is K = known_refused w command _ _ K
-  known_ask_row given w command to (Some node) name text is K = known_ask_read w command to (Some node) name (given.reading (kind_at node) name text) is K
-
-  known_ask_to : (given : RunInput) (w : World) (command : ℕ) (to : Option NodeId) (name text : List ℕ) → command ≡ c → Known w → Known (ask_to given w command to name text)
-  known_ask_to given w command None name text is K = known_refused w command _ _ K
-  known_ask_to given w command (Some to) name text is K = known_ask_row given w command to (node_at w to) name text is K
-
-  known_ask : (given : RunInput) (w : World) (command : ℕ) (address : Option Address) (name text : List ℕ) → command ≡ c → Known w → Known (ask_at given w command address name text)
-  known_ask given w command None name text is K = known_refused w command _ _ K
-  known_ask given w command (Some address) name text is K = known_ask_to given w command (walk w own_node address) name text is K
-
-  known_write_to : (w : World) (command : ℕ) (hook : Hook) (o : Option NodeRecord) (bytes : List ℕ) → Fits bytes → Known w → Known (write_to w command hook o bytes)
-  known_write_to w command hook None bytes fits K = known_refused w command _ _ K
-  known_write_to w command hook (Some node) bytes fits K = known_accept w hook.peer.node (kind_at node) (arrival hook bytes) None w.clock tt fits tt (no_tag c) K
-
-  known_write_if : (w : World) (command : ℕ) (hook : Hook) (b : Bool) (bytes : List ℕ) → Fits bytes → Known w → Known (write_if w command hook b bytes)
-  known_write_if w command hook false bytes fits K = known_refused w command _ _ K
-  known_write_if w command hook true bytes fits K = known_write_to w command hook (node_at w hook.peer.node) bytes fits K
-
-  known_write : (w : World) (command : ℕ) (o : Option Hook) (bytes : List ℕ) → Fits bytes → Known w → Known (write_by w command o bytes)
-  known_write w command None bytes fits K = known_refused w command _ _ K
-  known_write w command (Some hook) bytes fits K = known_write_if w command hook hook.joined bytes fits K
-
-  known_request : (given : RunInput) (w : World) (command : ℕ) (r : Request) → command ≡ c → FitsRequest r → Known w → Known (feed_request given w command r)
-  known_request given w command (RefusedFor why) is fits K = known_refused w command _ _ K
-  known_request given w command Helps is fits K = known_tell w _ tt K
-  known_request given w command Nothing is fits K = K
-  known_request given w command (Orders path number name args) is fits K = known_order w command (read_address path) number name args is K
-  known_request given w command (Asks path name text) is fits K = known_ask given w command (read_address path) name text is K
-  known_request given w command (Writes hook bytes) is fits K = known_write w command (hook_at (node_at w own_node) hook) bytes fits K
-
-  known_tick : (w : World) (seconds n : ℕ) (b : Bool) → Known w → Known (feed_tick w seconds n b)
-  known_tick w seconds n false K = K
-  known_tick w seconds n true K = known_accept_at w (node_id n) (node_at w (node_id n)) _ None w.clock tt tt tt (no_tag c) K
+  known_request : (given : RunInput) (w : World) (command : ℕ) {r : Request} {v : World} → Requested given w command r v → command ≡ c → FitsRequest r → Known w → Known v
+  known_request given w command (Refuses r errno why) is fits K = known_tell w _ tt K
+  known_request given w command Explains is fits K = known_tell w _ tt K
+  known_request given w command Ends is fits K = K
+  known_request given w command (ByOrder path name args number to o there) is fits K = known_message w to o command _ number name args is K
+  known_request given w command (ByName path name text args cookie number to node there reads) is fits K = known_message w to (Some node) command cookie number name args is K
+  known_request given w command (Sends name bytes hook node there) is fits K = known_accept w hook.peer.node (kind_at node) (arrival hook bytes) None w.clock tt fits tt (no_tag c) K
 
   known_ticks : (w : World) (seconds n : ℕ) (nodes : List (Option NodeRecord)) → Known w → Known (feed_ticks w seconds n nodes)
-  known_ticks w seconds n [] K = K
-  known_ticks w seconds n (node ∷ nodes) K = known_ticks (feed_tick w seconds n (is_bridge node)) seconds (n + 1) nodes (known_tick w seconds n (is_bridge node) K)
+  known_ticks w seconds n nodes K = ticks_keep Known seconds (λ v m L. known_accept_at v (node_id m) (node_at v (node_id m)) _ None v.clock tt tt tt (no_tag c) L) w n nodes K
 
   known_arrive : (w : World) (port : ℕ) (stamp : Stamp) → Known w → Known (arrive w port stamp)
   known_arrive w port stamp K = known_outside w (arrive w port stamp) refl refl refl K.told (every_set PortFits w.ports port _ K.left (port_fits w.ports port K.left)) K
@@ -421,7 +353,7 @@ known_begin B c ports number w settled K = record {
         ap (λ (o : Option ℕ). is_tag w.command o) e ∙ eq-eqb t w.command is
 
 known_line : (B c ports : ℕ) (given : RunInput) (w : World) (line : CommandLine) → IsSettled w → FitsRequest (request_of line.what) → Knows B c ports w → Knows B line.number ports (feed_command given w line)
-known_line B c ports given w line settled fits K = known_request B line.number ports given (begin_command w line.number) line.number (request_of line.what) refl fits (known_begin B c ports line.number w settled K)
+known_line B c ports given w line settled fits K = known_request B line.number ports given (begin_command w line.number) line.number (requested given (begin_command w line.number) line.number (request_of line.what)) refl fits (known_begin B c ports line.number w settled K)
 
 abbrev KnownSome : ℕ → ℕ → World → Type 0
 KnownSome B ports w = Knows B w.command ports w

@@ -3,7 +3,7 @@ use Rattle.std.proofs.Common.{◌≡◌, ◌≢◌, ◌∷◌, ◌++◌, List, s
 use Rattle.ng_base.specs.declared.event.Event.{Event}
 use Rattle.ng_base.specs.declared.event.Event.TheVariants.{Take}
 use Rattle.ng_machine.specs.declared.item.Item.{Item}
-use Rattle.ng_machine.specs.Lawful.{KeepsLaws, OrderlyIsLawful}
+use Rattle.ng_machine.specs.Lawful.{OrderlyIsLawful}
 use Rattle.ng_machine.specs.Laws.{Setting, IsGone, IsJournal, start, world_after}
 use Rattle.ng_machine.specs.Run.{beginning}
 use Rattle.ng_machine.specs.Words.{Has}

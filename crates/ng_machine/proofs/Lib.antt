@@ -1,4 +1,5 @@
 pub mod Standing
+pub mod Requests
 pub mod Quieted
 pub mod Replies
 pub mod Owed
@@ -7,6 +8,8 @@ pub mod Bounded
 pub mod Sounded
 pub mod Linked
 pub mod Undone
+pub mod Every
+pub mod Occurs
 pub mod Preserving
 pub mod NodeLists
 pub mod Kept

@@ -1,13 +1,12 @@
 -- No number of a run comes near the end of its type: what each change, each input and each event adds, and that it is little.
-use Rattle.std.proofs.Common.{◌≡◌, ◌≢◌, ◌⊎◌, ℕ, zero, suc, ◌+◌, ◌-◌, ◌*◌, ◌<◌, ◌≤◌, ◌==◌, ◌||◌, ◌&&◌, Bool, true, false, not, nat_le, nat_lt, if◌then◌else◌, cond, List, [], ◌∷◌, ◌++◌, length, map, take, set, get_or, is_some, slice_get, refl, sym, ap, ◌∙◌, inl, inr, ⊎_elim, subst, arith, true≢false, length-set, length-append}
+use Rattle.std.proofs.Common.{◌≡◌, ◌≢◌, ◌⊎◌, ℕ, zero, suc, ◌+◌, ◌-◌, ◌*◌, ◌<◌, ◌≤◌, ◌==◌, ◌||◌, ◌&&◌, Bool, true, false, not, nat_le, nat_lt, if◌then◌else◌, cond, List, [], ◌∷◌, ◌++◌, length, map, take, set, get_or, is_some, slice_get, refl, sym, ap, ◌∙◌, inl, inr, ⊎_elim, subst, arith, true≢false, length-append}
 use Rattle.std.specs.List.{filter, list_any}
 use Rattle.std.specs.declared.option.Option.{Option}
 use Rattle.std.specs.declared.option.Option.TheVariants.{None, Some}
 use Rattle.std.proofs.lemmas.List.{length-map}
-use Rattle.std.proofs.lemmas.Bool.{eqb-true, eq-eqb, ne_eqb, cases_eq, leb-true, eqb-false, not-true}
+use Rattle.std.proofs.lemmas.Bool.{ne_eqb, cases_eq, leb-true}
 use Rattle.ng_base.specs.declared.cause.Cause.{Cause}
 use Rattle.ng_base.specs.declared.cause.Cause.TheVariants.{NodeGone, HookGone, Budget}
-use Rattle.ng_base.specs.declared.errno.Errno.{Errno}
 use Rattle.ng_base.specs.declared.event.Event.{Event}
 use Rattle.ng_base.specs.declared.event.Event.TheVariants.{Feed, Take, Back, Apply, Stop}
 use Rattle.ng_base.specs.declared.ids.ItemId.{ItemId}
@@ -16,8 +15,8 @@ use Rattle.ng_base.specs.declared.ids.Stamp.{Stamp}
 use Rattle.ng_base.specs.declared.kind.Kind.{Kind}
 use Rattle.ng_base.specs.declared.kind.Kind.TheVariants.{Ether, Socket}
 use Rattle.ng_machine.specs.declared.body.Body.{Body}
-use Rattle.ng_machine.specs.declared.body.Body.TheVariants.{Frame, Msg, Join2, Join3, Undo, Leave, Rebind, Tick, Learn}
-use Rattle.ng_machine.specs.declared.body.Door.TheVariants.{Wire, Hook as ByHook}
+use Rattle.ng_machine.specs.declared.body.Body.TheVariants.{Frame, Tick}
+use Rattle.ng_machine.specs.declared.body.Door.TheVariants.{Wire}
 use Rattle.ng_machine.specs.declared.body.Exit.{Exit}
 use Rattle.ng_machine.specs.declared.body.Exit.TheVariants.{Wire as ToWire, Host, Reader}
 use Rattle.ng_machine.specs.declared.command.Command.{Command as CommandLine}
@@ -27,20 +26,18 @@ use Rattle.ng_machine.specs.declared.input.Input.TheVariants.{Command, Late, Pac
 use Rattle.ng_machine.specs.declared.item.Item.{Item}
 use Rattle.ng_machine.specs.declared.lost.Lost.{Lost}
 use Rattle.ng_machine.specs.Words.{Has, Every, times}
-use Rattle.ng_machine.specs.Body.{is_frame, is_tick, is_writer, is_at, has_id, has_tick, has_frame}
+use Rattle.ng_machine.specs.Body.{is_frame, is_writer, is_at, has_id, has_tick, has_frame}
 use Rattle.ng_machine.specs.Bounds.{links_of}
-use Rattle.ng_machine.specs.KnownRun.{FitsRequest, FitsInput, AreFit, PacketFits}
-use Rattle.ng_machine.specs.LowRun.{most_budget, most_ports, most_commands, IsModest, port_sum, outside_count, loss_count, IsLow, RunsAreLow}
-use Rattle.ng_machine.specs.World.{World, NodeRecord, Port, blank_node, blank_port, kind_at, node_at, is_there, hook_at, node_id, port_node, port_of, own_node, start_of}
-use Rattle.ng_path.specs.Address.{Address, read_address}
-use Rattle.ng_machine.specs.Walk.{walk}
-use Rattle.ng_machine.specs.Change.{Change, Sets, Makes, Retires, Accepts, Posts, Notes, Note, Tells, Refuses, Exits, Links, accept, accept_at, arrival, send_if, send_joined, send_by, post, frames, most_frames, tell, port_at, set_port, wire_if, read_if, hand_up, leave, spool_with, most_spool, note, set_node, retire, drops_for, change, change_all}
+use Rattle.ng_machine.specs.KnownRun.{FitsInput, PacketFits}
+use Rattle.ng_machine.specs.LowRun.{most_budget, most_commands, IsModest, port_sum, loss_count, IsLow, RunsAreLow}
+use Rattle.ng_machine.specs.World.{World, NodeRecord, Port, blank_node, blank_port, kind_at, node_at, is_there, hook_at, node_id, port_node, port_of}
+use Rattle.ng_machine.specs.Change.{Change, Sets, Makes, Retires, Accepts, Posts, Notes, Note, Tells, Refuses, Exits, Links, accept, accept_at, arrival, send_if, send_joined, send_by, frames, most_frames, tell, port_at, wire_if, read_if, hand_up, leave, spool_with, most_spool, note, set_node, retire, drops_for, change, change_all}
 use Rattle.ng_machine.specs.Effect.{effect, effect_at, is_hook_gone, take_out, finish, drop_hook_gone, apply_if, apply_item, apply_found, apply}
-use Rattle.ng_machine.specs.Feed.{RunInput, Reading, NoSuchMessage, BadArguments, Reads, Request, RefusedFor, Helps, Nothing, Orders, Asks, Writes, request_of, refuse_line, send_message, order_to, order_at, ask_read, ask_row, ask_to, ask_at, write_to, write_if, write_by, feed_request, begin_command, feed_command, arrive, feed_packet, is_bridge, feed_tick, feed_ticks, feed_input, feed_next}
+use Rattle.ng_machine.specs.Feed.{RunInput, Request, request_of, begin_command, feed_command, arrive, is_bridge, feed_tick, feed_ticks, feed_input, feed_next}
 use Rattle.ng_machine.specs.Run.{RunState, Taken, after, after_all, beginning, stop}
 use Rattle.ng_machine.specs.Refusal.{is_command}
-use Rattle.ng_machine.specs.Orderly.{IsTaken, HasNoTick, MayFeedInput, MayFeedNext, AllowedEvent, Allowed, OrderlyFrom}
-use Rattle.ng_machine.specs.Laws.{Setting, start, run_state_after, world_after, IsJournal, IsAccounted}
+use Rattle.ng_machine.specs.Orderly.{HasNoTick, MayFeedInput, MayFeedNext, Allowed, OrderlyFrom}
+use Rattle.ng_machine.specs.Laws.{Setting, start, run_state_after, IsJournal}
 use Rattle.ng_machine.proofs.Standing.{in_pushed, of_filter}
 use Rattle.ng_machine.proofs.NodeLists.{get, get_here, get_apart, get_before, get_gone, get_last, some_none, given_number, same_row}
 use Rattle.ng_machine.proofs.Quieted.{input_quietly, accepts_quietly, posts_quietly, notes_quietly}
@@ -48,48 +45,27 @@ use Rattle.ng_machine.proofs.Kept.{all_applies, applies_quietly, fed_quietly, So
 use Rattle.ng_machine.proofs.Moves.{KeptAt, kept_event, held_item, apply_fed, apply_applies}
 use Rattle.ng_machine.proofs.Ordering.{kept_start}
 use Rattle.ng_machine.proofs.Counted.{Counts, counts_event, counts_start, times-append, times_parted, has_count}
-use Rattle.ng_machine.proofs.Owing.{is_make, count_makes}
-use Rattle.ng_machine.proofs.Costing.{is_join, has_join, waiting_joins, weight, joins, links, total, Grows, Costs, cost_effect, most, fewer_times}
-use Rattle.ng_machine.proofs.Knowing.{Knows, KnownAt, known_event, known_start, grown_all, fits_at}
+use Rattle.ng_machine.proofs.Requests.{Requested, Ends, ByOrder, ByName, ByHook as Sends, requested}
+use Rattle.ng_machine.proofs.Costing.{is_join, has_join, waiting_joins, weight, joins, links, total, cost_effect, fewer_times}
+use Rattle.ng_machine.proofs.Preserving.{Grows, grows_effect}
+use Rattle.ng_machine.proofs.Knowing.{KnownAt, known_event, known_start, grown_all, fits_at}
 
 -- What is counted
 
 abbrev is_wire : Body → Bool
 is_wire (Frame Wire link packet) = true
-is_wire (Frame (ByHook hook) link packet) = false
-is_wire (Msg msg) = false
-is_wire (Join2 hook link peer peer_hook) = false
-is_wire (Join3 hook link) = false
-is_wire (Undo hook link errno) = false
-is_wire (Leave hook link) = false
-is_wire (Rebind hook old new peer peer_hook) = false
-is_wire (Tick seconds) = false
-is_wire (Learn hook link addr) = false
+is_wire _ = false
 
 abbrev has_wire : Item → Bool
 has_wire item = is_wire item.body
 
 step_no_wire : (body : Body) → is_frame body ≡ false → is_wire body ≡ false
 step_no_wire (Frame door link packet) e = absurd (true≢false e)
-step_no_wire (Msg msg) e = refl
-step_no_wire (Join2 hook link peer peer_hook) e = refl
-step_no_wire (Join3 hook link) e = refl
-step_no_wire (Undo hook link errno) e = refl
-step_no_wire (Leave hook link) e = refl
-step_no_wire (Rebind hook old new peer peer_hook) e = refl
-step_no_wire (Tick seconds) e = refl
-step_no_wire (Learn hook link addr) e = refl
+step_no_wire _ e = refl
 
 wire_is_frame : (body : Body) → is_wire body ≡ true → is_frame body ≡ true
 wire_is_frame (Frame door link packet) e = refl
-wire_is_frame (Msg msg) e = absurd (true≢false (sym e))
-wire_is_frame (Join2 hook link peer peer_hook) e = absurd (true≢false (sym e))
-wire_is_frame (Join3 hook link) e = absurd (true≢false (sym e))
-wire_is_frame (Undo hook link errno) e = absurd (true≢false (sym e))
-wire_is_frame (Leave hook link) e = absurd (true≢false (sym e))
-wire_is_frame (Rebind hook old new peer peer_hook) e = absurd (true≢false (sym e))
-wire_is_frame (Tick seconds) e = absurd (true≢false (sym e))
-wire_is_frame (Learn hook link addr) e = absurd (true≢false (sym e))
+wire_is_frame _ e = absurd (true≢false (sym e))
 
 times_imply : {A : Type 0} (a b : A → Bool) → ((x : A) → a x ≡ true → b x ≡ true) → (xs : List A) → times a xs ≤ times b xs
 times_imply a b f [] = omega arith
@@ -555,10 +531,6 @@ raised P H K i j l x y wi f t w le R = record {
 
 -- An item is applied
 
-makes_total : (cs : List Change) → count_makes cs ≡ total is_make cs
-makes_total [] = refl
-makes_total (c ∷ cs) = let more = makes_total cs in omega arith
-
 tick_le : (w : World) → waiting_tick w ≤ 1
 tick_le w = by (list_any has_tick w.pending)
   where
@@ -610,10 +582,9 @@ sized_applied P C w taken p S hp fits counts few Z = by (is_hook_gone (node_at w
         let km = K.makes_is in
         let waiting = R.join in
         let on : OnKind p.to.0 (kind_at node) v.nodes = record { within = given_number w.nodes p.to.0 node e; kind = λ r h. ap kind_at (same_row r node (sym h ∙ e)) } in
-        let T = runs_all P (w.applies + 1) _ _ _ _ _ _ _ p.to p.stamp node v cs (omega arith) (omega arith) K.grows on R in
+        let T = runs_all P (w.applies + 1) _ _ _ _ _ _ _ p.to p.stamp node v cs (omega arith) (omega arith) (grows_effect v p node p.body) on R in
         let same : u.applies ≡ w.applies + 1 = all_applies p.to p.stamp v cs in
         let grown = grown_all p.to p.stamp v cs in
-        let made = makes_total cs in
         let size = Z.nodes in
         let wire : wires u ≡ wires v = T.wire in
         let fewer = wires_fewer v refl in
@@ -661,54 +632,16 @@ module _ (P H : ℕ) where
   runs_tell i j l x y wi f t w v nodes pending done dropped next link lost refused ports spool R =
       runs_more P H i j l x y wi f t (i + 1) j l x y f v (omega arith) (omega arith) (omega arith) (omega arith) (omega arith) (omega arith) (runs_told P H i j l x y wi f t w v nodes pending done dropped next link lost refused ports (let le = R.spool in omega arith) R)
 
-  runs_order_to : (i j l x y wi f t : ℕ) (w : World) (command : ℕ) (to : Option NodeId) (number : ℕ) (name args : List ℕ) → Runs P H i j l x y wi f t w → Runs P H (i + 1) j l x y wi f t (order_to w command to number name args)
-  runs_order_to i j l x y wi f t w command None number name args R = runs_tell i j l x y wi f t w _ refl refl refl refl refl refl refl refl refl refl R
-  runs_order_to i j l x y wi f t w command (Some to) number name args R = runs_plain i j l x y wi f t w to (node_at w to) _ _ _ refl refl R
-
-  runs_order : (i j l x y wi f t : ℕ) (w : World) (command : ℕ) (address : Option Address) (number : ℕ) (name args : List ℕ) → Runs P H i j l x y wi f t w → Runs P H (i + 1) j l x y wi f t (order_at w command address number name args)
-  runs_order i j l x y wi f t w command None number name args R = runs_tell i j l x y wi f t w _ refl refl refl refl refl refl refl refl refl refl R
-  runs_order i j l x y wi f t w command (Some address) number name args R = runs_order_to i j l x y wi f t w command (walk w own_node address) number name args R
-
-  runs_ask_read : (i j l x y wi f t : ℕ) (w : World) (command : ℕ) (to : NodeId) (o : Option NodeRecord) (name : List ℕ) (r : Reading) → Runs P H i j l x y wi f t w → Runs P H (i + 1) j l x y wi f t (ask_read w command to o name r)
-  runs_ask_read i j l x y wi f t w command to o name NoSuchMessage R = runs_tell i j l x y wi f t w _ refl refl refl refl refl refl refl refl refl refl R
-  runs_ask_read i j l x y wi f t w command to o name (BadArguments why) R = runs_tell i j l x y wi f t w _ refl refl refl refl refl refl refl refl refl refl R
-  runs_ask_read i j l x y wi f t w command to o name (Reads cookie number args) R = runs_plain i j l x y wi f t w to o _ _ _ refl refl R
-
-  runs_ask_row : (i j l x y wi f t : ℕ) (given : RunInput) (w : World) (command : ℕ) (to : NodeId) (o : Option NodeRecord) (name text : List ℕ) → Runs P H i j l x y wi f t w → Runs P H (i + 1) j l x y wi f t (ask_row given w command to o name text)
-  runs_ask_row i j l x y wi f t given w command to None name text R = runs_tell i j l x y wi f t w _ refl refl refl refl refl refl refl refl refl refl R
-  runs_ask_row i j l x y wi f t given w command to (Some node) name text R = runs_ask_read i j l x y wi f t w command to (Some node) name (given.reading (kind_at node) name text) R
-
-  runs_ask_to : (i j l x y wi f t : ℕ) (given : RunInput) (w : World) (command : ℕ) (to : Option NodeId) (name text : List ℕ) → Runs P H i j l x y wi f t w → Runs P H (i + 1) j l x y wi f t (ask_to given w command to name text)
-  runs_ask_to i j l x y wi f t given w command None name text R = runs_tell i j l x y wi f t w _ refl refl refl refl refl refl refl refl refl refl R
-  runs_ask_to i j l x y wi f t given w command (Some to) name text R = runs_ask_row i j l x y wi f t given w command to (node_at w to) name text R
-
-  runs_ask : (i j l x y wi f t : ℕ) (given : RunInput) (w : World) (command : ℕ) (address : Option Address) (name text : List ℕ) → Runs P H i j l x y wi f t w → Runs P H (i + 1) j l x y wi f t (ask_at given w command address name text)
-  runs_ask i j l x y wi f t given w command None name text R = runs_tell i j l x y wi f t w _ refl refl refl refl refl refl refl refl refl refl R
-  runs_ask i j l x y wi f t given w command (Some address) name text R = runs_ask_to i j l x y wi f t given w command (walk w own_node address) name text R
-
-  runs_write_to : (i j l x y wi f t : ℕ) (w : World) (command : ℕ) (hook : Hook) (o : Option NodeRecord) (bytes : List ℕ) → Runs P H i j l x y wi f t w → Runs P H (i + 1) j l x y wi f t (write_to w command hook o bytes)
-  runs_write_to i j l x y wi f t w command hook None bytes R = runs_tell i j l x y wi f t w _ refl refl refl refl refl refl refl refl refl refl R
-  runs_write_to i j l x y wi f t w command hook (Some node) bytes R = runs_plain i j l x y wi f t w hook.peer.node (Some node) (arrival hook bytes) None w.clock refl refl R
-
-  runs_write_if : (i j l x y wi f t : ℕ) (w : World) (command : ℕ) (hook : Hook) (b : Bool) (bytes : List ℕ) → Runs P H i j l x y wi f t w → Runs P H (i + 1) j l x y wi f t (write_if w command hook b bytes)
-  runs_write_if i j l x y wi f t w command hook false bytes R = runs_tell i j l x y wi f t w _ refl refl refl refl refl refl refl refl refl refl R
-  runs_write_if i j l x y wi f t w command hook true bytes R = runs_write_to i j l x y wi f t w command hook (node_at w hook.peer.node) bytes R
-
-  runs_write : (i j l x y wi f t : ℕ) (w : World) (command : ℕ) (o : Option Hook) (bytes : List ℕ) → Runs P H i j l x y wi f t w → Runs P H (i + 1) j l x y wi f t (write_by w command o bytes)
-  runs_write i j l x y wi f t w command None bytes R = runs_tell i j l x y wi f t w _ refl refl refl refl refl refl refl refl refl refl R
-  runs_write i j l x y wi f t w command (Some hook) bytes R = runs_write_if i j l x y wi f t w command hook hook.joined bytes R
-
-  runs_request : (i j l x y wi f t : ℕ) (given : RunInput) (w : World) (command : ℕ) (r : Request) → Runs P H i j l x y wi f t w → Runs P H (i + 1) j l x y wi f t (feed_request given w command r)
-  runs_request i j l x y wi f t given w command (RefusedFor why) R = runs_tell i j l x y wi f t w _ refl refl refl refl refl refl refl refl refl refl R
-  runs_request i j l x y wi f t given w command Helps R = runs_tell i j l x y wi f t w _ refl refl refl refl refl refl refl refl refl refl R
-  runs_request i j l x y wi f t given w command Nothing R = runs_more P H i j l x y wi f t (i + 1) j l x y f w (omega arith) (omega arith) (omega arith) (omega arith) (omega arith) (omega arith) R
-  runs_request i j l x y wi f t given w command (Orders path number name args) R = runs_order i j l x y wi f t w command (read_address path) number name args R
-  runs_request i j l x y wi f t given w command (Asks path name text) R = runs_ask i j l x y wi f t given w command (read_address path) name text R
-  runs_request i j l x y wi f t given w command (Writes hook bytes) R = runs_write i j l x y wi f t w command (hook_at (node_at w own_node) hook) bytes R
+  runs_request : (i j l x y wi f t : ℕ) (given : RunInput) (w : World) (command : ℕ) {r : Request} {v : World} → Requested given w command r v → Runs P H i j l x y wi f t w → Runs P H (i + 1) j l x y wi f t v
+  runs_request i j l x y wi f t given w command Ends R = runs_more P H i j l x y wi f t (i + 1) j l x y f w (omega arith) (omega arith) (omega arith) (omega arith) (omega arith) (omega arith) R
+  runs_request i j l x y wi f t given w command (ByOrder path name args number to o there) R = runs_plain i j l x y wi f t w to o _ _ _ refl refl R
+  runs_request i j l x y wi f t given w command (ByName path name text args cookie number to node there reads) R = runs_plain i j l x y wi f t w to (Some node) _ _ _ refl refl R
+  runs_request i j l x y wi f t given w command (Sends name bytes hook node there) R = runs_plain i j l x y wi f t w hook.peer.node (Some node) (arrival hook bytes) None w.clock refl refl R
+  runs_request i j l x y wi f t given w command _ R = runs_tell i j l x y wi f t w _ refl refl refl refl refl refl refl refl refl refl R
 
   runs_line : (i j l x y wi f t : ℕ) (given : RunInput) (w : World) (line : CommandLine) → Runs P H i j l x y wi f t w → Runs P H (i + 1) j l x y wi f t (feed_command given w line)
   runs_line i j l x y wi f t given w line R =
-      runs_request i j l x y wi f t given (begin_command w line.number) line.number (request_of line.what)
+      runs_request i j l x y wi f t given (begin_command w line.number) line.number (requested given (begin_command w line.number) line.number (request_of line.what))
       (runs_told P H i j l x y wi f t w (begin_command w line.number) refl refl refl refl refl refl refl refl refl R.spool R)
 
   -- ticks: one for each node at most, and where any came one waits

@@ -1,37 +1,31 @@
 -- The facts that each kind owes the laws: a message that reads leaves what the kind keeps; a packet that reads leaves what
 -- a plan holds; and nothing changes the kind.
-use Rattle.std.proofs.Common.{◌≡◌, if◌then◌else◌, ℕ, Bool, true, false, ◌==◌, nat_lt, not, List, [], ◌∷◌, map, length, refl, sym, ap, ◌∙◌, subst, true≢false}
+use Rattle.std.proofs.Common.{◌≡◌, if◌then◌else◌, ℕ, Bool, true, false, ◌==◌, nat_lt, List, [], ◌∷◌, map, refl, ap, ◌∙◌, true≢false}
 use Rattle.std.specs.List.{find}
-use Rattle.std.specs.Str.{bytes_eq}
 use Rattle.std.specs.declared.option.Option.{Option}
 use Rattle.std.specs.declared.option.Option.TheVariants.{None, Some}
-use Rattle.ng_base.specs.declared.errno.Errno.{Errno}
-use Rattle.ng_machine.specs.declared.body.Body.{Body}
 use Rattle.ng_machine.specs.declared.body.Door.{Door}
 use Rattle.ng_machine.specs.declared.plan.BpfWay.{BpfWay}
 use Rattle.ng_machine.specs.declared.plan.BridgeLink.{BridgeLink}
 use Rattle.ng_machine.specs.declared.plan.BridgeHost.{BridgeHost}
 use Rattle.ng_machine.specs.declared.plan.PatchOp.{PatchOp}
-use Rattle.ng_machine.specs.declared.plan.Plan.{Plan}
 use Rattle.ng_machine.specs.declared.plan.Plan.TheVariants.{Bridge as BridgePlan, Bpf as BpfPlan}
-use Rattle.ng_machine.specs.Words.{Every, first_refusal}
 use Rattle.ng_message.specs.Numbers.{is_reader_number}
 use Rattle.ng_machine.specs.Body.{writes_by_packets}
-use Rattle.ng_base.specs.Name.{is_name}
 use Rattle.ng_machine.specs.Arguments.{text_at}
 use Rattle.ng_machine.specs.Counters.{Count, Rows, raise_at, after_counts}
-use Rattle.ng_machine.specs.Outcome.{Reply, invalid, refuses, answers, with_length}
+use Rattle.ng_machine.specs.Outcome.{Reply, answers, with_length}
 use Rattle.ng_machine.specs.kinds.Hub.{hub_messages, hub_message}
-use Rattle.ng_machine.specs.kinds.Tee.{tee_messages, tee_message, tee_bytes}
-use Rattle.ng_machine.specs.kinds.One2many.{One2many, one2many_messages, one2many_message, config_bytes, count_many, many_after}
-use Rattle.ng_machine.specs.kinds.Bridge.{Bridge, Link, Host, bridge_messages, bridge_message, bridge_config_bytes, count_bridge, count_bridge_if, at_link, has_number, link_way, host_way, link_number, see_host, seen_number}
+use Rattle.ng_machine.specs.kinds.Tee.{tee_messages, tee_message}
+use Rattle.ng_machine.specs.kinds.One2many.{One2many, one2many_messages, one2many_message, config_bytes}
+use Rattle.ng_machine.specs.kinds.Bridge.{Bridge, Link, Host, bridge_messages, bridge_message, bridge_config_bytes, count_bridge, count_bridge_if, has_number, link_way, host_way, link_number, seen_number}
 use Rattle.ng_machine.specs.kinds.Vlan.{Vlan, vlan_messages, vlan_message}
 use Rattle.ng_machine.specs.kinds.Patch.{patch_messages, patch_message}
-use Rattle.ng_machine.specs.kinds.Bpf.{Filter, bpf_messages, bpf_message, of_hook, by_filter, is_of_hook, at_filter, count_filter, way_bytes}
+use Rattle.ng_machine.specs.kinds.Bpf.{Filter, bpf_messages, bpf_message, by_filter, is_of_hook, count_filter, way_bytes}
 use Rattle.ng_machine.specs.kinds.Ether.{Ether, ether_messages, ether_message}
 use Rattle.ng_machine.specs.kinds.Etf.{Etf, etf_messages, etf_message, count_etf}
 use Rattle.ng_machine.specs.kinds.Macset.{Macset, macset_messages, macset_message, count_macset}
-use Rattle.ng_machine.specs.State.{KindState, HubState, HoleState, EchoState, SplitState, SocketState, TeeState, One2manyState, BridgeState, VlanState, PatchState, BpfState, EtherState, EtfState, MacsetState, State, kind_of_kept, kept_with_hook, kept_without_hook, kept_without_hooks, way_of_kept}
+use Rattle.ng_machine.specs.State.{KindState, HubState, TeeState, One2manyState, BridgeState, VlanState, PatchState, BpfState, EtherState, EtfState, MacsetState, kind_of_kept, kept_with_hook, kept_without_hook, kept_without_hooks, way_of_kept}
 use Rattle.ng_machine.specs.Case.{absorb, kept_after_frame, reply_of, kept_after_tick, kept_after_learn}
 use Rattle.ng_machine.specs.KindObligations.{AbsorbingPreserves}
 use Rattle.ng_machine.proofs.Replies.{by_number_all, with_length_all, unless_all, reads_not}
@@ -105,10 +99,6 @@ macset_reads s number args reads = by_number_all (Leaves s) s number (macset_mes
 
 pub reply_reads : (kept : KindState) (hooks : List (List ℕ)) (number : ℕ) (args : List ℕ) → is_reader_number number ≡ true → (reply_of kept hooks number args).after ≡ kept
 reply_reads (HubState s) hooks number args reads = ap HubState (hub_reads s number args reads)
-reply_reads HoleState hooks number args reads = refl
-reply_reads EchoState hooks number args reads = refl
-reply_reads SplitState hooks number args reads = refl
-reply_reads SocketState hooks number args reads = refl
 reply_reads (TeeState s) hooks number args reads = ap TeeState (tee_reads s number args reads)
 reply_reads (One2manyState s) hooks number args reads = ap One2manyState (one2many_reads s number args reads)
 reply_reads (BridgeState s) hooks number args reads = ap BridgeState (bridge_reads s number args reads)
@@ -118,6 +108,7 @@ reply_reads (BpfState s) hooks number args reads = ap BpfState (bpf_reads s numb
 reply_reads (EtherState s) hooks number args reads = ap EtherState (ether_reads s number args reads)
 reply_reads (EtfState s) hooks number args reads = ap EtfState (etf_reads s hooks number args reads)
 reply_reads (MacsetState s) hooks number args reads = ap MacsetState (macset_reads s number args reads)
+reply_reads _ hooks number args reads = refl
 
 -- What is counted leaves the plan
 
@@ -151,20 +142,11 @@ bridge_counted hooks s c true = ap (λ (links : List BridgeLink). Some (BridgePl
 bridge_counted hooks s c false = ap (λ (hosts : List BridgeHost). Some (BridgePlan s.config (map link_way s.links) hosts)) (map_leaves host_way _ (λ h. host_seen h _ (seen_number h.addr == c.1)) s.hosts)
 
 pub absorb_way : (kept : KindState) (hooks : List (List ℕ)) (counts : List Count) → way_of_kept (absorb kept counts) hooks ≡ way_of_kept kept hooks
-absorb_way (TeeState s) hooks counts = refl
 absorb_way (BridgeState s) hooks counts = counts_leave (λ (x : Bridge). way_of_kept (BridgeState x) hooks) count_bridge (λ x c. bridge_counted hooks x c (nat_lt c.1 14)) s counts
 absorb_way (BpfState s) hooks counts = ap (λ (ways : List BpfWay). Some (BpfPlan ways)) (counts_leave (λ (x : List Filter). map (λ (f : Filter). f.way) x) count_filter bpf_counted s counts)
 absorb_way (EtfState s) hooks counts = counts_leave (λ (x : Etf). way_of_kept (EtfState x) hooks) count_etf (λ x c. refl) s counts
 absorb_way (MacsetState s) hooks counts = counts_leave (λ (x : Macset). way_of_kept (MacsetState x) hooks) count_macset (λ x c. refl) s counts
-absorb_way (One2manyState s) hooks counts = refl
-absorb_way (HubState s) hooks counts = refl
-absorb_way HoleState hooks counts = refl
-absorb_way EchoState hooks counts = refl
-absorb_way SplitState hooks counts = refl
-absorb_way SocketState hooks counts = refl
-absorb_way (VlanState s) hooks counts = refl
-absorb_way (PatchState s) hooks counts = refl
-absorb_way (EtherState s) hooks counts = refl
+absorb_way _ hooks counts = refl
 
 pub absorbing_preserves : AbsorbingPreserves
 absorbing_preserves state counts = absorb_way state.kept state.hooks counts
@@ -172,53 +154,22 @@ absorbing_preserves state counts = absorb_way state.kept state.hooks counts
 -- a packet that reads leaves the plan
 pub passed_way : (kept : KindState) (hooks : List (List ℕ)) (door : Door) (counts : List Count) → writes_by_packets (kind_of_kept kept) ≡ false → way_of_kept (kept_after_frame kept hooks door counts) hooks ≡ way_of_kept kept hooks
 passed_way (One2manyState s) hooks door counts e = absurd (true≢false e)
-passed_way (HubState s) hooks door counts e = refl
-passed_way HoleState hooks door counts e = refl
-passed_way EchoState hooks door counts e = refl
-passed_way SplitState hooks door counts e = refl
-passed_way SocketState hooks door counts e = refl
 passed_way (TeeState s) hooks door counts e = absorb_way (TeeState s) hooks counts
 passed_way (BridgeState s) hooks door counts e = absorb_way (BridgeState s) hooks counts
-passed_way (VlanState s) hooks door counts e = refl
-passed_way (PatchState s) hooks door counts e = refl
 passed_way (BpfState s) hooks door counts e = absorb_way (BpfState s) hooks counts
-passed_way (EtherState s) hooks door counts e = refl
 passed_way (EtfState s) hooks door counts e = absorb_way (EtfState s) hooks counts
 passed_way (MacsetState s) hooks door counts e = absorb_way (MacsetState s) hooks counts
+passed_way _ hooks door counts e = refl
 
 -- Kinds stay
 
 pub made_kind : (kept : KindState) (hook : List ℕ) → kind_of_kept (kept_with_hook kept hook) ≡ kind_of_kept kept
 made_kind (HubState s) hook = refl
-made_kind HoleState hook = refl
-made_kind EchoState hook = refl
-made_kind SplitState hook = refl
-made_kind SocketState hook = refl
-made_kind (TeeState s) hook = refl
-made_kind (One2manyState s) hook = refl
-made_kind (BridgeState s) hook = refl
-made_kind (VlanState s) hook = refl
-made_kind (PatchState s) hook = refl
-made_kind (BpfState s) hook = refl
-made_kind (EtherState s) hook = refl
-made_kind (EtfState s) hook = refl
-made_kind (MacsetState s) hook = refl
+made_kind _ hook = refl
 
 pub cut_kind : (kept : KindState) (hook : List ℕ) → kind_of_kept (kept_without_hook kept hook) ≡ kind_of_kept kept
 cut_kind (HubState s) hook = refl
-cut_kind HoleState hook = refl
-cut_kind EchoState hook = refl
-cut_kind SplitState hook = refl
-cut_kind SocketState hook = refl
-cut_kind (TeeState s) hook = refl
-cut_kind (One2manyState s) hook = refl
-cut_kind (BridgeState s) hook = refl
-cut_kind (VlanState s) hook = refl
-cut_kind (PatchState s) hook = refl
-cut_kind (BpfState s) hook = refl
-cut_kind (EtherState s) hook = refl
-cut_kind (EtfState s) hook = refl
-cut_kind (MacsetState s) hook = refl
+cut_kind _ hook = refl
 
 pub cut_all_kind : (kept : KindState) (hooks : List (List ℕ)) → kind_of_kept (kept_without_hooks kept hooks) ≡ kind_of_kept kept
 cut_all_kind kept [] = refl
@@ -226,64 +177,16 @@ cut_all_kind kept (hook ∷ hooks) = cut_all_kind (kept_without_hook kept hook) 
 
 pub passed_kind : (kept : KindState) (hooks : List (List ℕ)) (door : Door) (counts : List Count) → kind_of_kept (kept_after_frame kept hooks door counts) ≡ kind_of_kept kept
 passed_kind (HubState s) hooks door counts = refl
-passed_kind HoleState hooks door counts = refl
-passed_kind EchoState hooks door counts = refl
-passed_kind SplitState hooks door counts = refl
-passed_kind SocketState hooks door counts = refl
-passed_kind (TeeState s) hooks door counts = refl
-passed_kind (One2manyState s) hooks door counts = refl
-passed_kind (BridgeState s) hooks door counts = refl
-passed_kind (VlanState s) hooks door counts = refl
-passed_kind (PatchState s) hooks door counts = refl
-passed_kind (BpfState s) hooks door counts = refl
-passed_kind (EtherState s) hooks door counts = refl
-passed_kind (EtfState s) hooks door counts = refl
-passed_kind (MacsetState s) hooks door counts = refl
+passed_kind _ hooks door counts = refl
 
 pub reply_kind : (kept : KindState) (hooks : List (List ℕ)) (number : ℕ) (args : List ℕ) → kind_of_kept (reply_of kept hooks number args).after ≡ kind_of_kept kept
 reply_kind (HubState s) hooks number args = refl
-reply_kind HoleState hooks number args = refl
-reply_kind EchoState hooks number args = refl
-reply_kind SplitState hooks number args = refl
-reply_kind SocketState hooks number args = refl
-reply_kind (TeeState s) hooks number args = refl
-reply_kind (One2manyState s) hooks number args = refl
-reply_kind (BridgeState s) hooks number args = refl
-reply_kind (VlanState s) hooks number args = refl
-reply_kind (PatchState s) hooks number args = refl
-reply_kind (BpfState s) hooks number args = refl
-reply_kind (EtherState s) hooks number args = refl
-reply_kind (EtfState s) hooks number args = refl
-reply_kind (MacsetState s) hooks number args = refl
+reply_kind _ hooks number args = refl
 
 pub ticked_kind : (kept : KindState) (seconds : ℕ) → kind_of_kept (kept_after_tick kept seconds) ≡ kind_of_kept kept
 ticked_kind (BridgeState s) seconds = refl
-ticked_kind (HubState s) seconds = refl
-ticked_kind HoleState seconds = refl
-ticked_kind EchoState seconds = refl
-ticked_kind SplitState seconds = refl
-ticked_kind SocketState seconds = refl
-ticked_kind (TeeState s) seconds = refl
-ticked_kind (One2manyState s) seconds = refl
-ticked_kind (VlanState s) seconds = refl
-ticked_kind (PatchState s) seconds = refl
-ticked_kind (BpfState s) seconds = refl
-ticked_kind (EtherState s) seconds = refl
-ticked_kind (EtfState s) seconds = refl
-ticked_kind (MacsetState s) seconds = refl
+ticked_kind _ seconds = refl
 
 pub learned_kind : (kept : KindState) (hook addr : List ℕ) → kind_of_kept (kept_after_learn kept hook addr) ≡ kind_of_kept kept
 learned_kind (BridgeState s) hook addr = refl
-learned_kind (HubState s) hook addr = refl
-learned_kind HoleState hook addr = refl
-learned_kind EchoState hook addr = refl
-learned_kind SplitState hook addr = refl
-learned_kind SocketState hook addr = refl
-learned_kind (TeeState s) hook addr = refl
-learned_kind (One2manyState s) hook addr = refl
-learned_kind (VlanState s) hook addr = refl
-learned_kind (PatchState s) hook addr = refl
-learned_kind (BpfState s) hook addr = refl
-learned_kind (EtherState s) hook addr = refl
-learned_kind (EtfState s) hook addr = refl
-learned_kind (MacsetState s) hook addr = refl
+learned_kind _ hook addr = refl

@@ -1,17 +1,16 @@
 -- A message that is refused changes nothing: each row of each table of messages refuses, or has no error.
-use Rattle.std.proofs.Common.{◌≡◌, if◌then◌else◌, ℕ, Bool, true, false, List, [], ◌∷◌, nat_lt, refl, sym, ap, ◌∙◌, true≢false}
+use Rattle.std.proofs.Common.{◌≡◌, if◌then◌else◌, ℕ, Bool, true, false, List, [], nat_lt, refl, sym, ap, ◌∙◌, true≢false}
 use Rattle.std.specs.List.{find}
 use Rattle.std.specs.declared.option.Option.{Option}
 use Rattle.std.specs.declared.option.Option.TheVariants.{None, Some}
 use Rattle.ng_base.specs.declared.errno.Errno.{Errno}
-use Rattle.ng_machine.specs.declared.outcome.Outcome.{Outcome}
 use Rattle.ng_machine.specs.declared.plan.PatchOp.{PatchOp}
 use Rattle.ng_machine.specs.declared.plan.VlanWay.{VlanWay}
 use Rattle.ng_machine.specs.declared.plan.EtfWay.{EtfWay}
-use Rattle.ng_machine.specs.Words.{Every, first_refusal}
+use Rattle.ng_machine.specs.Words.{first_refusal}
 use Rattle.ng_machine.specs.Arguments.{text_at, number_at}
 use Rattle.ng_machine.specs.Counters.{Rows, row_named}
-use Rattle.ng_machine.specs.Outcome.{Reply, invalid, refuses, sets, answers, with_length, unless_refused}
+use Rattle.ng_machine.specs.Outcome.{Reply, invalid, sets, with_length, unless_refused}
 use Rattle.ng_machine.specs.kinds.Hub.{hub_messages, hub_message}
 use Rattle.ng_machine.specs.kinds.Tee.{tee_messages, tee_message}
 use Rattle.ng_machine.specs.kinds.One2many as many
@@ -23,7 +22,7 @@ use Rattle.ng_machine.specs.kinds.Ether.{Ether, ether_messages, ether_message}
 use Rattle.ng_machine.specs.kinds.Etf.{Etf, etf_messages, etf_message, set_filter, filter_refusals, with_etf_filter, etf_filter_in}
 use Rattle.ng_machine.specs.kinds.Macset.{Macset, macset_messages, macset_message, add_address, address_refusals, with_address, delete_address, delete_address_refusals, without_address}
 use Rattle.ng_machine.specs.Effect.{is_fine}
-use Rattle.ng_machine.specs.State.{KindState, HubState, HoleState, EchoState, SplitState, SocketState, TeeState, One2manyState, BridgeState, VlanState, PatchState, BpfState, EtherState, EtfState, MacsetState, State}
+use Rattle.ng_machine.specs.State.{KindState, HubState, TeeState, One2manyState, BridgeState, VlanState, PatchState, BpfState, EtherState, EtfState, MacsetState}
 use Rattle.ng_machine.specs.Case.{reply_of}
 use Rattle.ng_machine.specs.KindObligations.{RefusedLeaves}
 use Rattle.ng_machine.proofs.Replies.{by_number_all, with_length_all, unless_all}
@@ -162,10 +161,6 @@ macset_clean s number args = by_number_all (Clean s) s number (macset_messages s
 
 reply_clean : (kept : KindState) (hooks : List (List ℕ)) (number : ℕ) (args : List ℕ) → Clean kept (reply_of kept hooks number args)
 reply_clean (HubState s) hooks number args = record { leaves = λ e. ap HubState ((hub_clean s number args).leaves e); sends = (hub_clean s number args).sends; exits = (hub_clean s number args).exits }
-reply_clean HoleState hooks number args = same refl refl refl
-reply_clean EchoState hooks number args = same refl refl refl
-reply_clean SplitState hooks number args = same refl refl refl
-reply_clean SocketState hooks number args = same refl refl refl
 reply_clean (TeeState s) hooks number args = record { leaves = λ e. ap TeeState ((tee_clean s number args).leaves e); sends = (tee_clean s number args).sends; exits = (tee_clean s number args).exits }
 reply_clean (One2manyState s) hooks number args = record { leaves = λ e. ap One2manyState ((many_clean s number args).leaves e); sends = (many_clean s number args).sends; exits = (many_clean s number args).exits }
 reply_clean (BridgeState s) hooks number args = record { leaves = λ e. ap BridgeState ((bridge_clean s number args).leaves e); sends = (bridge_clean s number args).sends; exits = (bridge_clean s number args).exits }
@@ -175,6 +170,7 @@ reply_clean (BpfState s) hooks number args = record { leaves = λ e. ap BpfState
 reply_clean (EtherState s) hooks number args = record { leaves = λ e. ap EtherState ((ether_clean s number args).leaves e); sends = (ether_clean s number args).sends; exits = (ether_clean s number args).exits }
 reply_clean (EtfState s) hooks number args = record { leaves = λ e. ap EtfState ((etf_clean s hooks number args).leaves e); sends = (etf_clean s hooks number args).sends; exits = (etf_clean s hooks number args).exits }
 reply_clean (MacsetState s) hooks number args = record { leaves = λ e. ap MacsetState ((macset_clean s number args).leaves e); sends = (macset_clean s number args).sends; exits = (macset_clean s number args).exits }
+reply_clean _ hooks number args = same refl refl refl
 
 pub refused_leaves : RefusedLeaves
 refused_leaves state number args e = (reply_clean state.kept state.hooks number args).leaves e

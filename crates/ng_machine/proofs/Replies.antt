@@ -1,10 +1,10 @@
 -- Replies to messages: where a number reads, or the reply is a refusal, what the kind keeps stays.
-use Rattle.std.proofs.Common.{◌≡◌, ◌≢◌, if◌then◌else◌, ℕ, Bool, true, false, ◌==◌, List, [], ◌∷◌, length, refl, sym, ap, ◌∙◌, subst, true≢false}
+use Rattle.std.proofs.Common.{◌≡◌, if◌then◌else◌, ℕ, Bool, true, false, ◌==◌, List, [], ◌∷◌, length, refl, sym, ◌∙◌, subst, true≢false}
 use Rattle.std.specs.declared.option.Option.{Option}
 use Rattle.std.specs.declared.option.Option.TheVariants.{None, Some}
 use Rattle.std.proofs.lemmas.Bool.{eqb-true}
 use Rattle.ng_base.specs.declared.errno.Errno.{Errno}
-use Rattle.ng_machine.specs.Words.{Every, first_refusal}
+use Rattle.ng_machine.specs.Words.{Every}
 use Rattle.ng_message.specs.Numbers.{is_reader_number}
 use Rattle.ng_machine.specs.Outcome.{Reply, with_length, unless_refused, by_number, invalid, refuses}
 

@@ -1,14 +1,14 @@
 -- What a part keeps by hooks stays of hooks that are there.
-use Rattle.std.proofs.Common.{rules, ◌≡◌, ◌≢◌, if◌then◌else◌, cond, ℕ, ◌==◌, Bool, true, false, not, List, [], ◌∷◌, ◌++◌, map, nat_lt, refl, sym, ap, ◌∙◌, subst, inl, inr, true≢false}
-use Rattle.std.specs.List.{fold, filter, find, list_any}
+use Rattle.std.proofs.Common.{◌≡◌, if◌then◌else◌, cond, ℕ, ◌==◌, Bool, true, false, not, List, [], ◌∷◌, ◌++◌, map, nat_lt, refl, sym, ap, ◌∙◌, subst, inl, inr, true≢false}
+use Rattle.std.specs.List.{filter, find}
 use Rattle.std.specs.Str.{bytes_eq}
 use Rattle.std.specs.declared.option.Option.{Option}
 use Rattle.std.specs.declared.option.Option.TheVariants.{None, Some}
-use Rattle.std.proofs.lemmas.Bool.{cases_Bool, eqb-true, eq-eqb, or_parts}
+use Rattle.std.proofs.lemmas.Bool.{cases_Bool, eqb-true, eq-eqb}
 use Rattle.ng_base.proofs.NameLemmas.{is_same, any_added, any_new, any_left, has_name-added, has_name-new, has_name-left}
 use Rattle.ng_base.specs.Names.{has_name, without_name}
 use Rattle.ng_base.specs.declared.kind.Kind.{Kind}
-use Rattle.ng_base.specs.declared.kind.Kind.TheVariants.{Hub as OfHub, Hole as OfHole, Echo as OfEcho, Tee as OfTee, Split as OfSplit, One2many as OfOne2many, Bridge as OfBridge, Vlan as OfVlan, Patch as OfPatch, Bpf as OfBpf, Ether as OfEther, Socket as OfSocket, Etf as OfEtf, Macset as OfMacset}
+use Rattle.ng_base.specs.declared.kind.Kind.TheVariants.{Bridge as OfBridge}
 use Rattle.ng_machine.specs.declared.body.Body.{Body}
 use Rattle.ng_machine.specs.declared.body.Body.TheVariants.{Frame, Msg, Join2, Join3, Undo, Leave, Rebind, Tick, Learn}
 use Rattle.ng_machine.specs.Words.{Every, first_refusal}
@@ -33,28 +33,15 @@ use Rattle.ng_machine.specs.kinds.Etf.{Etf, count_etf}
 use Rattle.ng_machine.specs.kinds.Vlan.{Vlan}
 use Rattle.ng_machine.specs.kinds.Bridge.{Bridge, Link, Host, Standing, Known, Looped, News, Crowded, link_number, put_link, new_link, has_number, at_link, see_host, seen_number, count_bridge, count_bridge_if, calm_link, age_host, rest_host, put_host, new_host, learn_by_standing, standing, mute_of, link_way, host_way}
 use Rattle.ng_machine.specs.kinds.Bpf.{Filter, new_filter, is_of_hook, at_filter, count_filter}
-use Rattle.ng_machine.specs.State.{KindState, HubState, HoleState, EchoState, SplitState, SocketState, TeeState, One2manyState, BridgeState, VlanState, PatchState, BpfState, EtherState, EtfState, MacsetState, State, kind_of, kind_of_kept, kept_with_hook, kept_without_hook, blank_of}
+use Rattle.ng_machine.specs.State.{KindState, HubState, HoleState, EchoState, SplitState, SocketState, TeeState, One2manyState, BridgeState, VlanState, PatchState, BpfState, EtherState, EtfState, MacsetState, State, kind_of_kept, kept_with_hook, kept_without_hook, blank_of}
 use Rattle.ng_machine.specs.SoundStates.{IsByHook, StatesStaySound}
+use Rattle.ng_machine.proofs.Every.{every_imply, every_push, every_map}
 use Rattle.ng_machine.proofs.Owed.{made_kind, cut_kind, passed_kind, reply_kind, ticked_kind, learned_kind}
 use Rattle.ng_machine.specs.Case.{absorb, kept_after_frame, kept_after_tick, kept_after_learn, reply_of, outcome_of, kept_after}
 use Rattle.ng_machine.specs.Sound.{has_link, KeepsByHooks, IsSound}
 use Rattle.ng_machine.proofs.Replies.{by_number_all, with_length_all}
 
--- Tests on the names
-
 -- Lists
-
-weaker : {A : Type 0} (P Q : A → Type 0) → ((x : A) → P x → Q x) → (xs : List A) → Every P xs → Every Q xs
-weaker P Q f [] h = tt
-weaker P Q f (x ∷ xs) h = (f x h.0, weaker P Q f xs h.1)
-
-pushed : {A : Type 0} (P : A → Type 0) (xs : List A) (x : A) → Every P xs → P x → Every P (xs ++ x ∷ [])
-pushed P [] x h p = (p, tt)
-pushed P (y ∷ xs) x h p = (h.0, pushed P xs x h.1 p)
-
-pub mapped : {A B : Type 0} (P : A → Type 0) (Q : B → Type 0) (f : A → B) → ((x : A) → P x → Q (f x)) → (xs : List A) → Every P xs → Every Q (map f xs)
-mapped P Q f one [] h = tt
-mapped P Q f one (x ∷ xs) h = (one x h.0, mapped P Q f one xs h.1)
 
 -- what passes a test keeps Q, where P and the test give it
 sifted : {A : Type 0} (P Q : A → Type 0) (test : A → Bool) → ((x : A) → P x → test x ≡ true → Q x) → (xs : List A) → Every P xs → Every Q (filter test xs)
@@ -127,16 +114,16 @@ linked_hook hooks l (m ∷ links) p h = by (nat_lt l.number m.number) (linked_ho
 
 made_kept : (kept : KindState) (hooks : List (List ℕ)) (hook : List ℕ) → KeepsByHooks kept hooks → KeepsByHooks (kept_with_hook kept hook) (hooks ++ hook ∷ [])
 made_kept (One2manyState s) hooks hook kept =
-    pushed (RowIn (hooks ++ hook ∷ [])) s.rows (hook, zeros 5) (weaker (RowIn hooks) (RowIn (hooks ++ hook ∷ [])) (λ row there. has_name-added hooks hook row.0 there) s.rows kept) (has_name-new hooks hook)
+    every_push (RowIn (hooks ++ hook ∷ [])) s.rows (hook, zeros 5) (every_imply (RowIn hooks) (RowIn (hooks ++ hook ∷ [])) (λ row there. has_name-added hooks hook row.0 there) s.rows kept) (has_name-new hooks hook)
 made_kept (BridgeState s) hooks hook kept = (
   linked_hook (hooks ++ hook ∷ []) (new_link (link_number hook)) s.links (link_new hooks hook)
-      (weaker (LinkIn hooks) (LinkIn (hooks ++ hook ∷ [])) (λ l there. link_made hooks hook l.number there) s.links kept.0),
-  weaker (HostIn hooks) (HostIn (hooks ++ hook ∷ [])) (λ h there. link_made hooks hook h.link there) s.hosts kept.1,
+      (every_imply (LinkIn hooks) (LinkIn (hooks ++ hook ∷ [])) (λ l there. link_made hooks hook l.number there) s.links kept.0),
+  every_imply (HostIn hooks) (HostIn (hooks ++ hook ∷ [])) (λ h there. link_made hooks hook h.link there) s.hosts kept.1,
 )
-made_kept (VlanState s) hooks hook kept = weaker (VlanIn hooks) (VlanIn (hooks ++ hook ∷ [])) (λ f there. has_name-added hooks hook f.hook there) s.filters kept
-made_kept (EtfState s) hooks hook kept = weaker (EtfIn hooks) (EtfIn (hooks ++ hook ∷ [])) (λ f there. has_name-added hooks hook f.hook there) s.filters kept
+made_kept (VlanState s) hooks hook kept = every_imply (VlanIn hooks) (VlanIn (hooks ++ hook ∷ [])) (λ f there. has_name-added hooks hook f.hook there) s.filters kept
+made_kept (EtfState s) hooks hook kept = every_imply (EtfIn hooks) (EtfIn (hooks ++ hook ∷ [])) (λ f there. has_name-added hooks hook f.hook there) s.filters kept
 made_kept (BpfState s) hooks hook kept =
-    pushed (FilterIn (hooks ++ hook ∷ [])) s (new_filter hook) (weaker (FilterIn hooks) (FilterIn (hooks ++ hook ∷ [])) (λ f there. has_name-added hooks hook f.way.hook there) s kept) (has_name-new hooks hook)
+    every_push (FilterIn (hooks ++ hook ∷ [])) s (new_filter hook) (every_imply (FilterIn hooks) (FilterIn (hooks ++ hook ∷ [])) (λ f there. has_name-added hooks hook f.way.hook there) s kept) (has_name-new hooks hook)
 made_kept (HubState s) hooks hook kept = tt
 made_kept HoleState hooks hook kept = tt
 made_kept EchoState hooks hook kept = tt
@@ -173,28 +160,28 @@ counts_keep P count one s [] h = h
 counts_keep P count one s (c ∷ counts) h = counts_keep P count one (count s c) counts (one s c h)
 
 rows_kept : (hooks : List (List ℕ)) (name : List ℕ) (change : List ℕ → List ℕ) (rows : Rows) → Every (RowIn hooks) rows → Every (RowIn hooks) (at_row name change rows)
-rows_kept hooks name change rows h = mapped (RowIn hooks) (RowIn hooks) _ (λ row there. one row there (bytes_eq row.0 name)) rows h
+rows_kept hooks name change rows h = every_map (RowIn hooks) (RowIn hooks) _ (λ row there. one row there (bytes_eq row.0 name)) rows h
   where
     one : (row : List ℕ × List ℕ) → RowIn hooks row → (b : Bool) → RowIn hooks (if b then (row.0, change row.1) else row)
     one row there true = there
     one row there false = there
 
 links_kept : (hooks : List (List ℕ)) (number : ℕ) (change : Link → Link) → ((l : Link) → (change l).number ≡ l.number) → (links : List Link) → Every (LinkIn hooks) links → Every (LinkIn hooks) (at_link number change links)
-links_kept hooks number change same links h = mapped (LinkIn hooks) (LinkIn hooks) _ (λ l there. one l there (has_number number l)) links h
+links_kept hooks number change same links h = every_map (LinkIn hooks) (LinkIn hooks) _ (λ l there. one l there (has_number number l)) links h
   where
     one : (l : Link) → LinkIn hooks l → (b : Bool) → LinkIn hooks (if b then change l else l)
     one l there true = subst (λ (n : ℕ). has_link hooks n ≡ true) (sym (same l)) there
     one l there false = there
 
 seen_kept : (hooks : List (List ℕ)) (number amount : ℕ) (hosts : List Host) → Every (HostIn hooks) hosts → Every (HostIn hooks) (map (see_host number amount) hosts)
-seen_kept hooks number amount hosts h = mapped (HostIn hooks) (HostIn hooks) _ (λ x there. one x there (seen_number x.addr == number)) hosts h
+seen_kept hooks number amount hosts h = every_map (HostIn hooks) (HostIn hooks) _ (λ x there. one x there (seen_number x.addr == number)) hosts h
   where
     one : (x : Host) → HostIn hooks x → (b : Bool) → HostIn hooks (if b then record x { seen = raise x.seen amount } else x)
     one x there true = there
     one x there false = there
 
 filters_kept : (hooks : List (List ℕ)) (hook : List ℕ) (change : Filter → Filter) → ((f : Filter) → FilterIn hooks f → is_of_hook hook f ≡ true → FilterIn hooks (change f)) → (s : List Filter) → Every (FilterIn hooks) s → Every (FilterIn hooks) (at_filter hook change s)
-filters_kept hooks hook change one s h = mapped (FilterIn hooks) (FilterIn hooks) _ (λ f there. by f there (is_of_hook hook f) refl) s h
+filters_kept hooks hook change one s h = every_map (FilterIn hooks) (FilterIn hooks) _ (λ f there. by f there (is_of_hook hook f) refl) s h
   where
     by : (f : Filter) → FilterIn hooks f → (b : Bool) → is_of_hook hook f ≡ b → FilterIn hooks (if b then change f else f)
     by f there true is = one f there is
@@ -213,31 +200,11 @@ absorb_kept (BridgeState s) hooks counts h = counts_keep (λ x. KeepsByHooks (Br
 absorb_kept (BpfState s) hooks counts h = counts_keep (λ x. KeepsByHooks (BpfState x) hooks) count_filter (λ x c k. filters_kept hooks c.0 _ (λ f there is. there) x k) s counts h
 absorb_kept (EtfState s) hooks counts h = counts_keep (λ x. KeepsByHooks (EtfState x) hooks) count_etf (λ x c k. k) s counts h
 absorb_kept (VlanState s) hooks counts h = h
-absorb_kept (HubState s) hooks counts h = tt
-absorb_kept HoleState hooks counts h = tt
-absorb_kept EchoState hooks counts h = tt
-absorb_kept SplitState hooks counts h = tt
-absorb_kept SocketState hooks counts h = tt
-absorb_kept (TeeState s) hooks counts h = tt
-absorb_kept (PatchState s) hooks counts h = tt
-absorb_kept (EtherState s) hooks counts h = tt
-absorb_kept (MacsetState s) hooks counts h = tt
+absorb_kept _ hooks counts h = tt
 
 absorb_kind : (kept : KindState) (counts : List Count) → kind_of_kept (absorb kept counts) ≡ kind_of_kept kept
 absorb_kind (One2manyState s) counts = refl
-absorb_kind (BridgeState s) counts = refl
-absorb_kind (BpfState s) counts = refl
-absorb_kind (EtfState s) counts = refl
-absorb_kind (VlanState s) counts = refl
-absorb_kind (HubState s) counts = refl
-absorb_kind HoleState counts = refl
-absorb_kind EchoState counts = refl
-absorb_kind SplitState counts = refl
-absorb_kind SocketState counts = refl
-absorb_kind (TeeState s) counts = refl
-absorb_kind (PatchState s) counts = refl
-absorb_kind (EtherState s) counts = refl
-absorb_kind (MacsetState s) counts = refl
+absorb_kind _ counts = refl
 
 passed_kept : (kept : KindState) (hooks : List (List ℕ)) (door : Door) (counts : List Count) → KeepsByHooks kept hooks → KeepsByHooks (kept_after_frame kept hooks door counts) hooks
 passed_kept (One2manyState s) hooks door counts h = many_counted hooks s counts h
@@ -245,23 +212,15 @@ passed_kept (BridgeState s) hooks door counts h = absorb_kept (BridgeState s) ho
 passed_kept (BpfState s) hooks door counts h = absorb_kept (BpfState s) hooks counts h
 passed_kept (EtfState s) hooks door counts h = absorb_kept (EtfState s) hooks counts h
 passed_kept (VlanState s) hooks door counts h = h
-passed_kept (HubState s) hooks door counts h = tt
-passed_kept HoleState hooks door counts h = tt
-passed_kept EchoState hooks door counts h = tt
-passed_kept SplitState hooks door counts h = tt
-passed_kept SocketState hooks door counts h = tt
-passed_kept (TeeState s) hooks door counts h = tt
-passed_kept (PatchState s) hooks door counts h = tt
-passed_kept (EtherState s) hooks door counts h = tt
-passed_kept (MacsetState s) hooks door counts h = tt
+passed_kept _ hooks door counts h = tt
 
 -- Time and learning
 
 ticked_kept : (kept : KindState) (hooks : List (List ℕ)) (seconds : ℕ) → KeepsByHooks kept hooks → KeepsByHooks (kept_after_tick kept seconds) hooks
 ticked_kept (BridgeState s) hooks seconds h = (
-  mapped (LinkIn hooks) (LinkIn hooks) (calm_link seconds) (λ l there. there) s.links h.0,
+  every_map (LinkIn hooks) (LinkIn hooks) (calm_link seconds) (λ l there. there) s.links h.0,
   sifted (HostIn hooks) (HostIn hooks) _ (λ x there passes. there) (map (λ x. age_host seconds (rest_host x)) s.hosts)
-      (mapped (HostIn hooks) (HostIn hooks) (λ x. age_host seconds (rest_host x)) (λ x there. one x there (nat_lt 0 x.seen)) s.hosts h.1),
+      (every_map (HostIn hooks) (HostIn hooks) (λ x. age_host seconds (rest_host x)) (λ x there. one x there (nat_lt 0 x.seen)) s.hosts h.1),
 )
   where
     one : (x : Host) → HostIn hooks x → (b : Bool) → HostIn hooks (age_host seconds (if b then record x { staleness = 0; seen = 0 } else x))
@@ -390,7 +349,7 @@ bridge_reply hooks s number args h = by_number_all (Holds BridgeState hooks) s n
   (
     (λ _. sized BridgeState hooks s 0 args (answers s (bridge.bridge_config_bytes s.config)) h (holds h)),
     (
-      (λ _. sized BridgeState hooks s 0 args (sets (bridge.bridge_reset s)) h (holds (mapped (LinkIn hooks) (LinkIn hooks) (λ l. new_link l.number) (λ l there. there) s.links h.0, tt))),
+      (λ _. sized BridgeState hooks s 0 args (sets (bridge.bridge_reset s)) h (holds (every_map (LinkIn hooks) (LinkIn hooks) (λ l. new_link l.number) (λ l there. there) s.links h.0, tt))),
       (
         (λ _. bridge_link hooks s args (λ l. answers s (row_bytes l.counters)) h (λ l. holds h)),
         (
@@ -498,33 +457,13 @@ reply_kept (BridgeState s) hooks number args h = (bridge_reply hooks s number ar
 reply_kept (VlanState s) hooks number args h = (vlan_reply hooks s number args h).kept
 reply_kept (BpfState s) hooks number args h = (bpf_reply hooks s number args h).kept
 reply_kept (EtfState s) hooks number args h = (etf_reply hooks s number args h).kept
-reply_kept (HubState s) hooks number args h = tt
-reply_kept HoleState hooks number args h = tt
-reply_kept EchoState hooks number args h = tt
-reply_kept SplitState hooks number args h = tt
-reply_kept SocketState hooks number args h = tt
-reply_kept (TeeState s) hooks number args h = tt
-reply_kept (PatchState s) hooks number args h = tt
-reply_kept (EtherState s) hooks number args h = tt
-reply_kept (MacsetState s) hooks number args h = tt
+reply_kept _ hooks number args h = tt
 
 -- States
 
 blank_sound : (kind : Kind) → IsSound (blank_of kind)
-blank_sound OfHub = record { taken = tt; kept = tt }
-blank_sound OfHole = record { taken = tt; kept = tt }
-blank_sound OfEcho = record { taken = tt; kept = tt }
-blank_sound OfTee = record { taken = tt; kept = tt }
-blank_sound OfSplit = record { taken = tt; kept = tt }
-blank_sound OfOne2many = record { taken = tt; kept = tt }
 blank_sound OfBridge = record { taken = tt; kept = (tt, tt) }
-blank_sound OfVlan = record { taken = tt; kept = tt }
-blank_sound OfPatch = record { taken = tt; kept = tt }
-blank_sound OfBpf = record { taken = tt; kept = tt }
-blank_sound OfEther = record { taken = tt; kept = tt }
-blank_sound OfSocket = record { taken = tt; kept = tt }
-blank_sound OfEtf = record { taken = tt; kept = tt }
-blank_sound OfMacset = record { taken = tt; kept = tt }
+blank_sound _ = record { taken = tt; kept = tt }
 
 same_taken : (state : State) (kept : KindState) → kind_of_kept kept ≡ kind_of_kept state.kept → KeepsByHooks kept state.hooks → IsSound state → IsSound (record state { kept = kept })
 same_taken state after kind keeps sound = record {
@@ -549,7 +488,7 @@ states_stay_sound = record {
   blank = blank_sound;
   made = λ state hook sound takes. record {
     taken = subst (λ (k : Kind). Every (λ (x : List ℕ). accepts_hook k x ≡ true) (state.hooks ++ hook ∷ [])) (sym (made_kind state.kept hook))
-        (pushed (λ (x : List ℕ). accepts_hook (kind_of_kept state.kept) x ≡ true) state.hooks hook sound.taken takes);
+        (every_push (λ (x : List ℕ). accepts_hook (kind_of_kept state.kept) x ≡ true) state.hooks hook sound.taken takes);
     kept = made_kept state.kept state.hooks hook sound.kept;
   };
   cut = λ state hook sound. record {

@@ -1,17 +1,15 @@
 -- What is out stays out, the limit takes nothing, and an item comes back or is applied by its taker.
-use Rattle.std.proofs.Common.{◌≡◌, ◌⊎◌, ℕ, List, [], ◌∷◌, ◌++◌, length, Bool, true, false, not, if◌then◌else◌, ◌==◌, refl, sym, ap, ◌∙◌, inl, inr, ⊎_elim, subst, arith, true≢false}
+use Rattle.std.proofs.Common.{◌≡◌, ◌⊎◌, ℕ, List, [], ◌∷◌, Bool, true, false, not, if◌then◌else◌, ◌==◌, refl, sym, ap, ◌∙◌, inl, inr, ⊎_elim, subst, arith, true≢false}
 use Rattle.std.specs.declared.option.Option.{Option}
 use Rattle.std.specs.declared.option.Option.TheVariants.{None, Some}
 use Rattle.std.specs.Option.{option_or}
-use Rattle.std.specs.List.{list_any}
 use Rattle.std.proofs.lemmas.Bool.{eqb-true, eq-eqb, cases_Bool}
 use Rattle.ng_base.specs.declared.event.Event.{Event}
 use Rattle.ng_base.specs.declared.event.Event.TheVariants.{Feed, Take, Back, Apply, Stop}
 use Rattle.ng_base.specs.declared.ids.ItemId.{ItemId}
-use Rattle.ng_machine.specs.declared.item.Item.{Item}
 use Rattle.ng_machine.specs.Words.{Has}
 use Rattle.ng_machine.specs.Feed.{RunInput}
-use Rattle.ng_machine.specs.Run.{RunState, Taken, is_of, without, after, after_all, beginning}
+use Rattle.ng_machine.specs.Run.{RunState, Taken, is_of, after, after_all, beginning}
 use Rattle.ng_machine.specs.Orderly.{IsTaken, AllowedEvent, OrderlyFrom}
 use Rattle.ng_machine.specs.Laws.{Setting, start, run_state_after, taken_by, ends}
 use Rattle.ng_machine.specs.RunLaws.{StaysOut, SpentTakesNothing, ByItsTaker, taker, last_taker}
@@ -92,8 +90,6 @@ by_its_taker s j rest e id o is =
     (t.0.seat, here, taken_by_last s j id t.0.seat (orderly_front s.given s.budget s.seats (beginning (start s)) j (e ∷ rest) o) here)
   where
     taken : (e : Event) → ends id e ≡ true → AllowedEvent s.given s.budget s.seats (run_state_after s j) e → IsTaken (run_state_after s j).taken id
-    taken Feed is a = absurd (true≢false (sym is))
-    taken (Take seat other) is a = absurd (true≢false (sym is))
     taken (Back other) is a = subst (IsTaken (run_state_after s j).taken) (item_same other id (eqb-true other.0 id.0 is)) a
     taken (Apply other) is a = subst (IsTaken (run_state_after s j).taken) (item_same other id (eqb-true other.0 id.0 is)) a
-    taken Stop is a = absurd (true≢false (sym is))
+    taken _ is a = absurd (true≢false (sym is))

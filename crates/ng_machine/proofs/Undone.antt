@@ -1,23 +1,20 @@
 -- A hook that is cut right after it was made leaves the state as it was before.
-use Rattle.std.proofs.Common.{rules, ◌≡◌, ◌≢◌, ◌⊎◌, if◌then◌else◌, ℕ, zero, suc, ◌==◌, Bool, true, false, not, List, [], ◌∷◌, ◌++◌, codes, unwrap_or, nat_lt, refl, sym, ap, ◌∙◌, subst, inl, inr, ⊎_elim, arith, true≢false}
-use Rattle.std.specs.List.{filter, list_any}
+use Rattle.std.proofs.Common.{◌≡◌, if◌then◌else◌, ℕ, zero, suc, ◌==◌, Bool, true, false, not, List, [], ◌∷◌, ◌++◌, codes, unwrap_or, nat_lt, refl, sym, ap, ◌∙◌, subst, inl, inr, true≢false}
+use Rattle.std.specs.List.{filter}
 use Rattle.std.specs.Str.{bytes_eq}
-use Rattle.std.specs.declared.option.Option.{Option}
-use Rattle.std.specs.declared.option.Option.TheVariants.{None, Some}
 use Rattle.std.proofs.lemmas.Bool.{cases_Bool, eqb-true, eq-eqb, or_parts}
 use Rattle.ng_base.proofs.NameLemmas.{same_name, is_same, differs, without_name-added}
-use Rattle.ng_base.specs.Names.{has_name, without_name}
+use Rattle.ng_base.specs.Names.{has_name}
 use Rattle.ng_machine.specs.declared.plan.VlanWay.{VlanWay}
 use Rattle.ng_machine.specs.declared.plan.EtfWay.{EtfWay}
 use Rattle.ng_machine.specs.Words.{Every}
 use Rattle.ng_machine.specs.Names.{number_behind, is_numbered, digits}
 use Rattle.ng_machine.specs.Rules.{accepts_hook}
 use Rattle.ng_machine.specs.Counters.{zeros}
-use Rattle.ng_machine.specs.kinds.One2many.{One2many}
-use Rattle.ng_machine.specs.kinds.Bridge.{Bridge, Link, Host, link_number, link_hook, most_links, new_link, put_link, has_number, is_behind, elsewhere}
-use Rattle.ng_machine.specs.kinds.Bpf.{Filter, new_filter, is_of_hook}
-use Rattle.ng_machine.specs.State.{KindState, HubState, HoleState, EchoState, SplitState, SocketState, TeeState, One2manyState, BridgeState, VlanState, PatchState, BpfState, EtherState, EtfState, MacsetState, State, kind_of_kept, kept_with_hook, kept_without_hook, add_hook, cut_hook}
-use Rattle.ng_machine.specs.Sound.{has_link, KeepsByHooks, IsSound, CutUndoes}
+use Rattle.ng_machine.specs.kinds.Bridge.{Link, link_number, link_hook, most_links, new_link, put_link, has_number, is_behind, elsewhere}
+use Rattle.ng_machine.specs.kinds.Bpf.{new_filter, is_of_hook}
+use Rattle.ng_machine.specs.State.{KindState, HubState, HoleState, EchoState, SplitState, SocketState, TeeState, One2manyState, BridgeState, VlanState, PatchState, BpfState, EtherState, EtfState, MacsetState, kind_of_kept, kept_with_hook, kept_without_hook}
+use Rattle.ng_machine.specs.Sound.{has_link, KeepsByHooks, CutUndoes}
 
 -- Names
 

@@ -1,6 +1,6 @@
 -- What an item carries: whether it is a packet, its mode and its lane. netgraph(4): an item is a reader or a writer of
 -- its node, and a writer is alone with it.
-use Rattle.std.specs.Prelude.{ℕ, ◌/◌, ◌%◌, Bool, true, false, not, ◌&&◌, ◌==◌, Option, Some, None}
+use Rattle.std.specs.Prelude.{ℕ, Bool, true, false, not, ◌&&◌, ◌==◌, Option, Some, None}
 use Rattle.std.specs.Str.{bytes_eq}
 use Rattle.ng_base.specs.declared.ids.ItemId.{ItemId}
 use Rattle.ng_base.specs.declared.ids.NodeId.{NodeId}

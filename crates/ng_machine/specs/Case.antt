@@ -10,7 +10,7 @@ use Rattle.ng_machine.specs.declared.plan.Plan.{Plan}
 use Rattle.ng_machine.specs.declared.plan.Plan.TheVariants.{Discard, Echo, Fan, Ways, Vlan, Patch, Bpf, Ether, Socket, Bridge, Etf, Macset}
 use Rattle.ng_machine.specs.State.{KindState, HubState, HoleState, EchoState, SplitState, SocketState, TeeState, One2manyState, BridgeState, VlanState, PatchState, BpfState, EtherState, EtfState, MacsetState, State, way_of}
 use Rattle.ng_machine.specs.Counters.{Count, count_row, after_counts}
-use Rattle.ng_machine.specs.Outcome.{nothing, Reply, sets, invalid}
+use Rattle.ng_machine.specs.Outcome.{nothing, Reply, invalid}
 use Rattle.ng_machine.specs.kinds.Hub.{fans, hub_message}
 use Rattle.ng_machine.specs.kinds.Hole.{discards}
 use Rattle.ng_machine.specs.kinds.Echo.{echoes}

@@ -1,6 +1,6 @@
 -- Counters: numbers of 64 bits that stop at the greatest. The statistics of a type's manual page are a row of them, in the
 -- order of its structure.
-use Rattle.std.specs.Prelude.{ℕ, ◌+◌, ◌-◌, ◌^◌, min, Bool, not, if◌then◌else◌, List, [], ◌∷◌, ◌++◌, map, filter, slice_index, slice_set, replicate, Option, Some, None}
+use Rattle.std.specs.Prelude.{ℕ, ◌+◌, ◌-◌, ◌^◌, min, not, if◌then◌else◌, List, [], ◌∷◌, map, filter, slice_index, slice_set, replicate, Option, Some, None}
 use Rattle.std.specs.List.{fold, flat_map}
 use Rattle.std.specs.Str.{bytes_eq}
 use Rattle.byteorder.specs.Endian.{little_bytes}

@@ -3,7 +3,7 @@ use Rattle.std.specs.Prelude.{◌≡◌, ◌≢◌, ℕ, ◌+◌, ◌<◌, ◌�
 use Rattle.std.specs.List.{list_any}
 use Rattle.ng_base.specs.declared.cause.Cause.{Cause}
 use Rattle.ng_base.specs.declared.event.Event.{Event}
-use Rattle.ng_base.specs.declared.event.Event.TheVariants.{Take, Back, Apply, Stop}
+use Rattle.ng_base.specs.declared.event.Event.TheVariants.{Take, Back, Apply}
 use Rattle.ng_base.specs.declared.ids.ItemId.{ItemId}
 use Rattle.ng_base.specs.declared.ids.NodeId.{NodeId}
 use Rattle.ng_base.specs.declared.kind.Kind.{Kind}

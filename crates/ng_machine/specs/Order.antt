@@ -1,6 +1,6 @@
 -- Generic messages, read: which order the number and the arguments of a message are (ng_message.h, described in
 -- netgraph(4)). A name stands in 32 bytes up to its first NUL, and the path of connect in 512.
-use Rattle.std.specs.Prelude.{ℕ, Bool, true, false, ◌==◌, ◌||◌, if◌then◌else◌, List, length, take, drop, Option, Some, None, Result, Ok, Err}
+use Rattle.std.specs.Prelude.{ℕ, Bool, true, false, ◌==◌, ◌||◌, if◌then◌else◌, List, length, take, Option, Some, None, Result, Ok, Err}
 use Rattle.ng_base.specs.declared.errno.Errno.{Errno}
 use Rattle.ng_message.specs.Fields.{field_text}
 use Rattle.ng_machine.specs.Words.{is_empty}

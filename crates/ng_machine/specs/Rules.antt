@@ -1,6 +1,6 @@
 -- What each type of node says of its hooks' names, of staying without hooks, and of going. Each is the rule of the type's
 -- manual page, ng_hub(4) and so on, with ng_ in front of the type's name.
-use Rattle.std.specs.Prelude.{ℕ, ◌+◌, Bool, true, false, ◌||◌, if◌then◌else◌, List, [], ◌∷◌, codes, Result, Ok, Err}
+use Rattle.std.specs.Prelude.{ℕ, Bool, true, false, ◌||◌, if◌then◌else◌, List, [], ◌∷◌, codes, Result, Ok, Err}
 use Rattle.std.specs.Str.{bytes_eq}
 use Rattle.ng_base.specs.declared.errno.Errno.{Errno}
 use Rattle.ng_base.specs.declared.kind.Kind.{Kind}

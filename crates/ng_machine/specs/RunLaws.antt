@@ -4,11 +4,10 @@ use Rattle.std.specs.Prelude.{◌≡◌, ℕ, ◌==◌, true, false, if◌then�
 use Rattle.std.specs.List.{list_any}
 use Rattle.std.specs.Option.{option_or}
 use Rattle.ng_base.specs.declared.event.Event.{Event}
-use Rattle.ng_base.specs.declared.event.Event.TheVariants.{Take, Back, Apply}
+use Rattle.ng_base.specs.declared.event.Event.TheVariants.{Take}
 use Rattle.ng_base.specs.declared.ids.ItemId.{ItemId}
 use Rattle.ng_machine.specs.declared.item.Item.{Item}
 use Rattle.ng_machine.specs.Words.{Has}
-use Rattle.ng_machine.specs.World.{World}
 use Rattle.ng_machine.specs.Laws.{Setting, IsJournal, world_after, run_state_after, taken_by, ends}
 
 -- STAYS OUT: from its Take to its Back or Apply an item is pending, and taken by that seat.

@@ -1,5 +1,5 @@
 -- What a state is sound by stays so: through new hooks and cuts, packets, messages, time and learning. A blank state is sound.
-use Rattle.std.specs.Prelude.{◌≡◌, ℕ, true, false, List}
+use Rattle.std.specs.Prelude.{◌≡◌, ℕ, true, List}
 use Rattle.ng_base.specs.Names.{has_name}
 use Rattle.ng_base.specs.declared.kind.Kind.{Kind}
 use Rattle.ng_machine.specs.declared.body.Body.{Body}

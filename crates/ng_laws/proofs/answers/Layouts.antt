@@ -9,7 +9,7 @@ use Rattle.byteorder.specs.Endian.{little_bytes}
 use Rattle.ng_base.proofs.NameLemmas.{same_name}
 use Rattle.ng_message.specs.Fields.{name_field}
 use Rattle.ng_shape.specs.Shape.{Shape, UInt, Str, Struct, Counted, Fields, no_fields, field, CountField, Own, Inside}
-use Rattle.ng_shape.specs.Values.{Value, Absent, Number, Text, Group, number, find, count_in}
+use Rattle.ng_shape.specs.Values.{Value, Absent, number, find, count_in}
 use Rattle.ng_shape.specs.Layout.{end_gap}
 use Rattle.ng_shape.specs.Decoding.{given, number_value, text_value, group_value, before_nul, text_in, value_in, read_fields}
 use Rattle.ng_shape.proofs.Lookups.{AllBelow, find_behind, below_given}
@@ -49,9 +49,7 @@ two_given (suc n) m = refl
 
 find_here : (i : ℕ) (v : Value) → find i (given i v) ≡ v
 find_here i Absent = refl
-find_here i (Number left n) = rw (eq-eqb i i refl) refl
-find_here i (Text bs) = rw (eq-eqb i i refl) refl
-find_here i (Group left ms) = rw (eq-eqb i i refl) refl
+find_here i _ = rw (eq-eqb i i refl) refl
 
 number_is : (n : ℕ) → number (number_value n) ≡ n
 number_is zero = refl

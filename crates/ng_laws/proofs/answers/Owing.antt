@@ -1,59 +1,44 @@
 -- What each change of an item owes: nodes whose names, hooks and parts have the right lengths; messages that a fed
 -- command asked for; and answers that have rows. `Presumed` stands for what the law presumes of a run: where it doesn't
 -- hold, less is owed.
-use Rattle.std.proofs.Common.{◌≡◌, ℕ, suc, ◌<◌, ◌≤◌, ◌^◌, ◌==◌, ◌&&◌, Bool, true, false, not, if◌then◌else◌, List, [], ◌∷◌, ◌++◌}
-use Rattle.std.proofs.Common.{length, length-append, map, refl, sym, subst, arith}
+use Rattle.std.proofs.Common.{◌≡◌, ℕ, suc, ◌<◌, ◌≤◌, ◌^◌, ◌==◌, ◌&&◌, Bool, true, false, not, if◌then◌else◌, List, [], ◌∷◌}
+use Rattle.std.proofs.Common.{length, length-append, refl, sym, subst, arith}
 use Rattle.std.specs.declared.option.Option.{Option}
 use Rattle.std.specs.declared.option.Option.TheVariants.{None, Some}
-use Rattle.std.specs.declared.result.Result.{Result}
-use Rattle.std.specs.declared.result.Result.TheVariants.{Ok, Err}
 use Rattle.std.proofs.lemmas.Bool.{and_parts, eqb-true}
 use Rattle.std.proofs.lemmas.List.{length-map}
-use Rattle.ng_base.specs.Kind.{kind_named, same_kind, cookie_of}
-use Rattle.ng_base.specs.declared.errno.Errno.{Errno}
+use Rattle.ng_base.specs.Kind.{same_kind, cookie_of}
 use Rattle.ng_base.specs.declared.ids.LinkId.{LinkId}
 use Rattle.ng_base.specs.declared.ids.NodeId.{NodeId}
 use Rattle.ng_base.specs.declared.kind.Kind.{Kind}
 use Rattle.ng_base.specs.declared.kind.Kind.TheVariants.{Socket}
-use Rattle.ng_path.specs.Address.{Address, read_address}
 use Rattle.ng_message.specs.Numbers.{generic_cookie}
 use Rattle.ng_message.specs.declared.message.Msg.{Msg as Message}
 use Rattle.ng_machine.specs.declared.body.Body.{Body}
 use Rattle.ng_machine.specs.declared.body.Body.TheVariants.{Frame, Msg, Join2, Join3, Undo, Leave, Rebind, Tick, Learn}
-use Rattle.ng_machine.specs.declared.body.Door.{Door}
-use Rattle.ng_machine.specs.declared.body.Door.TheVariants.{Wire, Hook as ByHook}
-use Rattle.ng_machine.specs.declared.body.Exit.{Exit}
-use Rattle.ng_machine.specs.declared.farewell.Farewell.{Farewell}
-use Rattle.ng_machine.specs.declared.farewell.Farewell.TheVariants.{Plain, Stay, Bypass}
+use Rattle.ng_machine.specs.declared.body.Door.TheVariants.{Hook as ByHook}
 use Rattle.ng_machine.specs.declared.hook.Hook.{Hook}
 use Rattle.ng_machine.specs.declared.item.Item.{Item}
-use Rattle.ng_machine.specs.declared.outcome.Outcome.{Outcome}
 use Rattle.ng_machine.specs.declared.told.Told.{Told}
 use Rattle.ng_machine.specs.declared.told.Told.TheVariants.{Line, Refused, Help, Answer, Frame as ToldFrame}
 use Rattle.ng_machine.specs.Words.{Every}
-use Rattle.ng_machine.specs.Errors.{einval, enoent, enxio}
-use Rattle.ng_machine.specs.Rules.{farewell_of}
-use Rattle.ng_machine.specs.State.{KindState, blank_kept}
+use Rattle.ng_machine.specs.State.{blank_kept}
 use Rattle.ng_machine.specs.Case.{outcome_of, kept_after}
-use Rattle.ng_machine.specs.World.{World, NodeRecord, state_of, kind_at, hook_of, is_named, linked_hook, new_hook, with_hook}
+use Rattle.ng_machine.specs.World.{World, NodeRecord, state_of, kind_at, is_named, new_hook, with_hook}
 use Rattle.ng_machine.specs.World.{without_hook, with_changed_hook, change_hook, settle_hook, bind_to, hook_names, blank_node}
 use Rattle.ng_machine.specs.World.{link_id, next_node}
-use Rattle.ng_machine.specs.Walk.{walk}
 use Rattle.ng_machine.specs.Change.{Change, Sets, Makes, Retires, Accepts, Posts, Notes, Note, Tells, Refuses, Exits, Links}
-use Rattle.ng_machine.specs.Change.{items_of}
-use Rattle.ng_machine.specs.Order.{Order, Shutdown, Mkpeer, Connect, Rename, Rmhook, Asks, Question, NodeInfo, ListHooks}
-use Rattle.ng_machine.specs.Order.{ListNames, ListNodes, ListTypes, read_order}
-use Rattle.ng_machine.specs.Retire.{refuse, aftermath, aftermath_of, retiring, leave_steps, leave_step_to, leave_step_unless}
-use Rattle.ng_machine.specs.Retire.{outward, is_outward, hooks_but, bypass, farewell, stays, cut_to_if}
-use Rattle.ng_machine.specs.Connect.{unless, hook_refusal, connect_changes, connect_to, connect, join, settle, undo, rmhook}
-use Rattle.ng_machine.specs.Connect.{remove_peer_hook, rebind}
-use Rattle.ng_machine.specs.Generic.{mkpeer, mkpeer_refusal, makes, rename_refusal, answer_bytes, answer_to, carry_out}
-use Rattle.ng_machine.specs.Generic.{ordered_by}
-use Rattle.ng_machine.specs.Effect.{door_name, exits, posts, counts_unless, is_fine, serve, learns_by, learns, learn, answered}
-use Rattle.ng_machine.specs.Effect.{reply_changes_if, told_answer, is_answer, class_by, message_by, effect_at}
+use Rattle.ng_machine.specs.Order.{Order, Asks, Question, NodeInfo, ListHooks}
+use Rattle.ng_machine.specs.Order.{ListNames, ListNodes, ListTypes}
+use Rattle.ng_machine.specs.Generic.{answer_bytes, answer_to}
+use Rattle.ng_machine.specs.Effect.{is_answer, class_by, class_of, effect_at}
+use Rattle.ng_machine.specs.Effect.{MessageClass, AnAnswer, AnOrder, OfKind, Foreign}
 use Rattle.ng_machine.specs.Feed.{RunInput}
-use Rattle.ng_machine.proofs.Owing.{every_push, every_filter, every_find, flat_has}
-use Rattle.ng_machine.proofs.Preserving.{join_all}
+use Rattle.ng_machine.proofs.Every.{every_push, every_filter, every_imply, every_map, every_has}
+use Rattle.ng_machine.proofs.Occurs.{IsOrder, Becomes, ByRule, WithPeer, WithHook, Joined, Renamed, Cut, Emptied, Settled, Bound}
+use Rattle.ng_machine.proofs.Occurs.{Peer, Brings, ToLearn, Replied, Answered, ToLeave, ToJoin, ToRebind, HasJoined}
+use Rattle.ng_machine.proofs.Occurs.{HasRefused, HasGone, NotesOf, Fails, Hears, CountsRefused, LetsOut, UsesLink, Occurs}
+use Rattle.ng_machine.proofs.Costing.{effect_occurs}
 use Rattle.ng_laws.specs.answers.Answers.{WasAsked, WasHelp, HasRow}
 use Rattle.ng_laws.proofs.answers.Rows.{IsShort, IsShortNamed, IsShortHook, AreShortNamed, fewer, node_info, list_hooks, list_names}
 use Rattle.ng_laws.proofs.answers.Rows.{list_nodes, list_types}
@@ -123,6 +108,28 @@ more_node Presumed n m node le h = record {
   kept = more_shaped n m node.kept le h.kept;
 }
 
+-- What a message's class says of it: its flag, or its cookie
+
+abbrev Says : MessageClass → Bool → Bool → Bool → Type 0
+Says AnAnswer answers generic own = answers ≡ true
+Says AnOrder answers generic own = generic ≡ true
+Says OfKind answers generic own = own ≡ true
+Says Foreign answers generic own = Unit {0}
+
+class_says : (kind : Kind) (msg : Message) (class : MessageClass) → class_of kind msg ≡ class
+    → Says class (is_answer msg && same_kind kind Socket) (msg.header.typecookie == generic_cookie) (msg.header.typecookie == cookie_of kind)
+class_says kind msg class e =
+    by (is_answer msg && same_kind kind Socket) (msg.header.typecookie == generic_cookie) (msg.header.typecookie == cookie_of kind) class e
+  where
+    all : (a b c : Bool) → Says (class_by a b c) a b c
+    all true b c = refl
+    all false true c = refl
+    all false false true = refl
+    all false false false = tt
+
+    by : (a b c : Bool) (class : MessageClass) → class_by a b c ≡ class → Says class a b c
+    by a b c class e = subst (λ (x : MessageClass). Says x a b c) e (all a b c)
+
 -- What an item's changes owe, where these hold of it, of its node and of the others
 
 pub record IsReady (Presumed : Type 0) (given : RunInput) (fed n : ℕ) (w : World) (item : Item) (node : NodeRecord) : Type 0 where
@@ -133,199 +140,47 @@ pub record IsReady (Presumed : Type 0) (given : RunInput) (fed n : ℕ) (w : Wor
 
 module _ (Presumed : Type 0) (given : RunInput) (fed n : ℕ) (w : World) (item : Item) (node : NodeRecord)
     (R : IsReady Presumed given fed n w item node) where
-  abbrev O : Change → Type 0
-  O c = Owes Presumed given fed (suc n) c
-
   same_node : IsShapedNode Presumed (suc n) node
   same_node = more_node Presumed n (suc n) node (omega arith) R.own
 
-  owes_refuse : (tag : Option ℕ) (errno : Errno) → Every O (refuse tag errno)
-  owes_refuse None errno = tt
-  owes_refuse (Some command) errno = (tt, tt)
+  -- Nodes
 
-  owes_unless : (e : Option Errno) (tag : Option ℕ) (cs : List Change) → Every O cs → Every O (unless e tag cs)
-  owes_unless None tag cs h = h
-  owes_unless (Some e) tag cs h = owes_refuse tag e
-
-  owes_exits : (hook : List ℕ) (xs : List (Exit × List ℕ)) → Every O (exits hook xs)
-  owes_exits hook [] = tt
-  owes_exits hook (x ∷ xs) = (tt, owes_exits hook xs)
-
-  owes_posts : (xs : List (List ℕ × List ℕ)) → Every O (posts xs)
-  owes_posts [] = tt
-  owes_posts (x ∷ xs) = (tt, owes_posts xs)
-
-  owes_counts : (b : Bool) → Every O (counts_unless b)
-  owes_counts true = tt
-  owes_counts false = (tt, tt)
-
-  owes_learns_by : (at : NodeId) (hook : List ℕ) (link : Option LinkId) (addr : Option (List ℕ)) → IsSixOrNone addr
-      → Every O (learns_by at hook link addr)
-  owes_learns_by at hook None addr six = tt
-  owes_learns_by at hook (Some link) None six = tt
-  owes_learns_by at hook (Some link) (Some addr) six = (six, tt)
-
-  owes_learns : (at : NodeId) (door : Door) (link : Option LinkId) (addr : Option (List ℕ)) → IsSixOrNone addr
-      → Every O (learns at door link addr)
-  owes_learns at Wire link addr six = tt
-  owes_learns at (ByHook hook) link addr six = owes_learns_by at hook link addr six
-
-  owes_becomes : (kept : KindState) → IsShaped (suc n) kept → O (Sets (record node { kept = kept }))
-  owes_becomes kept h = record { named = R.own.named; hooks = R.own.hooks; few = let few = R.own.few in omega arith; kept = h }
-
-  owes_serve : (body : Body) (hook : List ℕ) (out : Outcome) (learned : List Change)
-      → IsShaped (suc n) (kept_after (state_of node) body) → Every O learned → Every O (serve node body hook out learned)
-  owes_serve body hook out learned h l = (
-    owes_becomes (kept_after (state_of node) body) h,
-    join_all O (exits hook out.leaves) (counts_unless (is_fine out.errno) ++ (learned ++ posts out.sends))
-        (owes_exits hook out.leaves)
-        (join_all O (counts_unless (is_fine out.errno)) (learned ++ posts out.sends) (owes_counts (is_fine out.errno))
-        (join_all O learned (posts out.sends) l (owes_posts out.sends))),
-  )
-
-  -- Messages: the item's body is this one
-
-  module _ (msg : Message) (A : IsAsked Presumed given fed item.tag msg) where
-    answer_owed : (bytes : List ℕ) → (Presumed → HasRow msg.header.typecookie msg.header.cmd bytes)
-        → BodyOwes Presumed given fed item.tag (Msg (answer_to item.to msg bytes))
-    answer_owed bytes has = record { command = A.command; is = A.is; asked = A.asked; row = λ _ presumed. has presumed }
-
-    owes_answered : (bytes : Option (List ℕ)) → (Presumed → AnswerHasRow msg.header.typecookie msg.header.cmd bytes)
-        → Every O (answered item msg bytes)
-    owes_answered None has = tt
-    owes_answered (Some bytes) has = (answer_owed bytes has, tt)
-
-    owes_told : is_answer msg ≡ true → (tag : Option ℕ) → tag ≡ item.tag → Every O (told_answer msg tag)
-    owes_told is None e = tt
-    owes_told is (Some command) e =
-        let same : command ≡ A.command = cc (A.is) in (
-          (
-            subst (λ (c : ℕ). WasAsked given fed c msg.header.typecookie msg.header.cmd) (sym same) A.asked,
-            λ presumed. A.row is presumed,
-          ),
-          tt,
-        )
-
-    owes_reply : (b : Bool) → msg.header.typecookie ≡ cookie_of (kind_at node)
-        → Every O (reply_changes_if node item msg (outcome_of (state_of node) (Msg msg)) b)
-    owes_reply false e = owes_refuse item.tag _
-    owes_reply true e =
-        let out = outcome_of (state_of node) (Msg msg) in
-        let fine = reply_fine n node.kept (hook_names node) msg.header.cmd msg.args R.own.kept in (
-          owes_becomes (kept_after (state_of node) (Msg msg)) fine.shaped,
-          join_all O (exits [] out.leaves) (answered item msg out.answer ++ posts out.sends) (owes_exits [] out.leaves)
-              (join_all O (answered item msg out.answer) (posts out.sends)
-              (owes_answered out.answer (λ presumed. subst
-              (λ (cookie : ℕ). AnswerHasRow cookie msg.header.cmd out.answer) (sym e)
-              (fine.answer (R.few presumed)))) (owes_posts out.sends)),
-        )
-
-  -- Removal
-
-  owes_leave : (b : Bool) (hook : Hook) → Every O (leave_step_unless b hook)
-  owes_leave true hook = tt
-  owes_leave false hook = (tt, tt)
-
-  owes_leaves : (at : NodeId) (hooks : List Hook) → Every O (leave_steps at hooks)
-  owes_leaves at hooks = flat_has O (leave_step_to at) hooks (λ hook _. owes_leave (hook.peer.node.0 == at.0) hook)
-
-  owes_aftermath : (p : Item) (body : Body) → Every O (aftermath_of p body)
-  owes_aftermath p (Frame door link packet) = tt
-  owes_aftermath p (Msg msg) = owes_refuse p.tag enxio
-  owes_aftermath p (Join2 hook link peer peer_hook) = (tt, tt)
-  owes_aftermath p (Join3 hook link) = tt
-  owes_aftermath p (Undo hook link errno) = tt
-  owes_aftermath p (Leave hook link) = tt
-  owes_aftermath p (Rebind hook old new peer peer_hook) = tt
-  owes_aftermath p (Tick seconds) = tt
-  owes_aftermath p (Learn hook link addr) = tt
-
-  owes_retiring : Every O (retiring w item)
-  owes_retiring = (tt, flat_has O aftermath (items_of w item.to) (λ p h. owes_aftermath p p.body))
-
-  owes_cut : (now : NodeRecord) (b : Bool) → IsShapedNode Presumed (suc n) now → Every O (cut_to_if w item now b)
-  owes_cut now true h = (h, tt)
-  owes_cut now false h = owes_retiring
+  after_shaped : (body : Body) → BodyOwes Presumed given fed item.tag body → IsShaped (suc n) (kept_after (state_of node) body)
+  after_shaped (Frame door link packet) h = passed_shaped (suc n) node.kept (hook_names node) door _ same_node.kept
+  after_shaped (Msg msg) h = (reply_fine n node.kept (hook_names node) msg.header.cmd msg.args R.own.kept).shaped
+  after_shaped (Tick seconds) h = ticked_shaped (suc n) node.kept seconds same_node.kept
+  after_shaped (Learn hook link addr) h = learned_shaped n node.kept hook addr h R.own.kept
+  after_shaped _ h = same_node.kept
 
   cut_node : (name : List ℕ) → IsShapedNode Presumed (suc n) (without_hook node name)
   cut_node name = record {
     named = R.own.named;
     hooks = every_filter IsShortHook (λ h. not (is_named name h)) node.hooks R.own.hooks;
     few = let few = R.own.few in omega (arith, fewer (λ (h : Hook). not (is_named name h)) node.hooks);
-    kept = cut_shaped (suc n) node.kept name (more_shaped n (suc n) node.kept (omega arith) R.own.kept);
+    kept = cut_shaped (suc n) node.kept name same_node.kept;
   }
 
-  abbrev ShortOrNone : Option Hook → Type 0
-  ShortOrNone None = Unit {0}
-  ShortOrNone (Some hook) = IsShortHook hook
-
-  owes_bypass : (a b : List ℕ) (x y : Option Hook) → ShortOrNone x → ShortOrNone y → Every O (bypass w item node a b x y)
-  owes_bypass a b (Some x) (Some y) hx hy = (tt, (hy.1, (hx.1, owes_leaves item.to (hooks_but a b node.hooks))))
-  owes_bypass a b None y hx hy = owes_leaves item.to node.hooks
-  owes_bypass a b (Some x) None hx hy = owes_leaves item.to node.hooks
-
-  outward_short : (o : Option Hook) → ShortOrNone o → ShortOrNone (outward w item.to o)
-  outward_short None h = tt
-  outward_short (Some hook) h = by (is_outward w item.to hook)
-    where
-      by : (b : Bool) → ShortOrNone (if b then Some hook else None)
-      by true = h
-      by false = tt
-
-  found_short : (name : List ℕ) (o : Option Hook) → hook_of node name ≡ o → ShortOrNone o
-  found_short name None e = tt
-  found_short name (Some hook) e = every_find IsShortHook (is_named name) node.hooks hook R.own.hooks e
-
-  owes_farewell : (f : Farewell) → Every O (farewell w item node f)
-  owes_farewell Stay = (
-    record {
-      named = R.own.named;
-      hooks = tt;
-      few = omega arith;
-      kept =
-          cut_all_shaped (suc n) node.kept (hook_names node) (more_shaped n (suc n) node.kept (omega arith) R.own.kept);
-    },
-    owes_leaves item.to node.hooks,
-  )
-  owes_farewell Plain = join_all O (leave_steps item.to node.hooks) (retiring w item)
-      (owes_leaves item.to node.hooks) owes_retiring
-  owes_farewell (Bypass a b) =
-      join_all O (bypass w item node a b (outward w item.to (hook_of node a)) (outward w item.to (hook_of node b)))
-      (retiring w item)
-      (owes_bypass a b (outward w item.to (hook_of node a)) (outward w item.to (hook_of node b))
-      (outward_short (hook_of node a) (found_short a (hook_of node a) refl))
-      (outward_short (hook_of node b) (found_short b (hook_of node b) refl)))
-      owes_retiring
-
-  -- Hooks
-
-  with_hook_owes : (name : List ℕ) (link : LinkId) (peer : NodeId) (peer_hook : List ℕ) (joined : Bool) → IsShort name
-      → IsShort peer_hook → O (Sets (with_hook node (new_hook name link peer peer_hook joined)))
-  with_hook_owes name link peer peer_hook joined short other = record {
+  pushed_node : (name : List ℕ) (link : LinkId) (peer : NodeId) (peer_hook : List ℕ) (joined : Bool) → IsShort name
+      → IsShort peer_hook → IsShapedNode Presumed (suc n) (with_hook node (new_hook name link peer peer_hook joined))
+  pushed_node name link peer peer_hook joined short other = record {
     named = R.own.named;
     hooks = every_push IsShortHook node.hooks (new_hook name link peer peer_hook joined) R.own.hooks (short, other);
     few = let few = R.own.few in omega (arith, length-append node.hooks (new_hook name link peer peer_hook joined ∷ []));
-    kept = made_shaped (suc n) node.kept name short (more_shaped n (suc n) node.kept (omega arith) R.own.kept);
+    kept = made_shaped (suc n) node.kept name short same_node.kept;
   }
-
-  changed_short : (name : List ℕ) (change : Hook → Hook) (hooks : List Hook)
-      → ((h : Hook) → IsShortHook h → IsShortHook (change h)) → Every IsShortHook hooks
-      → Every IsShortHook (map (change_hook name change) hooks)
-  changed_short name change [] f all = tt
-  changed_short name change (h ∷ hooks) f all = (by (is_named name h), changed_short name change hooks f all.1)
-    where
-      by : (b : Bool) → IsShortHook (if b then change h else h)
-      by true = f h all.0
-      by false = all.0
 
   changed_node : (name : List ℕ) (change : Hook → Hook) → ((h : Hook) → IsShortHook h → IsShortHook (change h))
       → IsShapedNode Presumed (suc n) (with_changed_hook node name change)
   changed_node name change f = record {
     named = R.own.named;
-    hooks = changed_short name change node.hooks f R.own.hooks;
+    hooks = every_map IsShortHook IsShortHook (change_hook name change) (λ h short. by h (is_named name h) short) node.hooks R.own.hooks;
     few = let few = R.own.few in omega (arith, length-map node.hooks (change_hook name change));
-    kept = more_shaped n (suc n) node.kept (omega arith) R.own.kept;
+    kept = same_node.kept;
   }
+    where
+      by : (h : Hook) (b : Bool) → IsShortHook h → IsShortHook (if b then change h else h)
+      by h true short = f h short
+      by h false short = short
 
   made_node : (kind : Kind) (name : List ℕ) (link : LinkId) (peer_hook : List ℕ) → IsShort name → IsShort peer_hook
       → IsShapedNode Presumed (suc n) (with_hook (blank_node None kind) (new_hook name link item.to peer_hook true))
@@ -337,34 +192,30 @@ module _ (Presumed : Type 0) (given : RunInput) (fed n : ℕ) (w : World) (item 
         (more_shaped 0 (suc n) (blank_kept kind) (omega arith) (blank_shaped kind));
   }
 
-  owes_mkpeer : (kind : Option Kind) (ours theirs : List ℕ) → IsShort ours → IsShort theirs
-      → Every O (mkpeer w item node kind ours theirs)
-  owes_mkpeer None ours theirs a b = owes_refuse item.tag _
-  owes_mkpeer (Some kind) ours theirs a b = owes_unless (mkpeer_refusal w node kind ours theirs) item.tag
-      (makes w item node kind ours theirs) (
-        with_hook_owes ours (link_id w.next_link) (next_node w) theirs true a b,
-        (made_node kind theirs (link_id w.next_link) ours b a, (tt, tt)),
-      )
+  -- the names in an order are short, and its number is that of its question
+  order_is : (msg : Message) (order : Order) → IsOrder node msg order → OrderOwes msg.header.cmd order
+  order_is msg order is = subst (ResultOwes msg.header.cmd) is.reads (order_owes msg.header.cmd msg.args)
 
-  owes_connect_to : (peer : Option NodeId) (ours theirs : List ℕ) → IsShort ours → IsShort theirs
-      → Every O (connect_to w item node peer ours theirs)
-  owes_connect_to None ours theirs a b = owes_refuse item.tag enoent
-  owes_connect_to (Some peer) ours theirs a b = owes_unless (hook_refusal node ours) item.tag
-      (connect_changes w item node peer ours theirs)
-      (with_hook_owes ours (link_id w.next_link) peer theirs false a b, ((b, a), (tt, tt)))
-
-  owes_connect : (address : Option Address) (ours theirs : List ℕ) → IsShort ours → IsShort theirs
-      → Every O (connect w item node address ours theirs)
-  owes_connect None ours theirs a b = owes_refuse item.tag einval
-  owes_connect (Some address) ours theirs a b = owes_connect_to (walk w item.to address) ours theirs a b
-
-  owes_rmhook : (hook : Option Hook) → Every O (rmhook w item node hook)
-  owes_rmhook None = owes_refuse item.tag enoent
-  owes_rmhook (Some hook) = (
-    tt,
-    owes_cut (without_hook node hook.name) (stays (without_hook node hook.name))
-        (cut_node hook.name),
-  )
+  becomes_shaped : {body : Body} {now : NodeRecord} → Becomes w item node body now → BodyOwes Presumed given fed item.tag body
+      → IsShapedNode Presumed (suc n) now
+  becomes_shaped (ByRule body) h =
+      record { named = R.own.named; hooks = R.own.hooks; few = same_node.few; kept = after_shaped body h }
+  becomes_shaped (WithPeer msg name ours theirs kind made) h = let short = order_is msg _ made.order in
+      pushed_node ours (link_id w.next_link) (next_node w) theirs true short.0 short.1
+  becomes_shaped (WithHook msg path ours theirs address peer order to) h = let short = order_is msg _ order in
+      pushed_node ours (link_id w.next_link) peer theirs false short.0 short.1
+  becomes_shaped (Joined hook link peer peer_hook) h = pushed_node hook link peer peer_hook true h.0 h.1
+  becomes_shaped (Renamed msg name order) h =
+      record { named = λ _. order_is msg _ order; hooks = R.own.hooks; few = same_node.few; kept = same_node.kept }
+  becomes_shaped (Cut body name writes) h = cut_node name
+  becomes_shaped (Emptied msg order) h = record {
+    named = R.own.named;
+    hooks = tt;
+    few = omega arith;
+    kept = cut_all_shaped (suc n) node.kept (hook_names node) same_node.kept;
+  }
+  becomes_shaped (Settled hook link name) h = changed_node name settle_hook (λ h short. short)
+  becomes_shaped (Bound hook old new peer peer_hook name) h = changed_node name (bind_to new peer peer_hook) (λ x was. (was.0, h))
 
   -- The messages that all nodes know
 
@@ -377,86 +228,63 @@ module _ (Presumed : Type 0) (given : RunInput) (fed n : ℕ) (w : World) (item 
   question_row ListNodes presumed = list_nodes w _ (R.names presumed) (R.nodes presumed)
   question_row ListTypes presumed = list_types w
 
-  module _ (msg : Message) (A : IsAsked Presumed given fed item.tag msg) where
-    owes_order : (order : Order) → msg.header.typecookie ≡ generic_cookie → OrderOwes msg.header.cmd order
-        → Every O (carry_out w item node msg order)
-    owes_order Shutdown e h = owes_farewell (farewell_of (kind_at node))
-    owes_order (Mkpeer kind ours theirs) e h = owes_mkpeer (kind_named kind) ours theirs h.0 h.1
-    owes_order (Connect path ours theirs) e h = owes_connect (read_address path) ours theirs h.0 h.1
-    owes_order (Rename name) e h = owes_unless (rename_refusal w node name) item.tag _
-        (record { named = λ _. h; hooks = R.own.hooks; few = same_node.few; kept = same_node.kept }, tt)
-    owes_order (Rmhook hook) e h = owes_rmhook (hook_of node hook)
-    owes_order (Asks question) e h =
-        let bytes = answer_bytes w item.to node question in (
-          answer_owed msg A bytes (λ presumed. subst (λ (cookie : ℕ). HasRow cookie msg.header.cmd bytes) (sym e)
-              (subst (λ (number : ℕ). HasRow generic_cookie number bytes) (sym h) (question_row question presumed))),
-          tt,
-        )
+  -- What is brought and noted
 
-    owes_orders : (r : Result Order Errno) → msg.header.typecookie ≡ generic_cookie → ResultOwes msg.header.cmd r
-        → Every O (ordered_by w item node msg r)
-    owes_orders (Ok order) e h = owes_order order e h
-    owes_orders (Err errno) e h = owes_refuse item.tag errno
+  answer_owed : (msg : Message) (bytes : List ℕ) → IsAsked Presumed given fed item.tag msg
+      → (Presumed → HasRow msg.header.typecookie msg.header.cmd bytes)
+      → BodyOwes Presumed given fed item.tag (Msg (answer_to item.to msg bytes))
+  answer_owed msg bytes A has = record { command = A.command; is = A.is; asked = A.asked; row = λ _ presumed. has presumed }
 
-    owes_message : (a b c : Bool) → (is_answer msg && same_kind (kind_at node) Socket) ≡ a
-        → (msg.header.typecookie == generic_cookie) ≡ b → (msg.header.typecookie == cookie_of (kind_at node)) ≡ c
-        → Every O (message_by w item node msg (class_by a b c))
-    owes_message true b c is generic own = owes_told msg A
-        (and_parts (is_answer msg) (same_kind (kind_at node) Socket) is).0 item.tag refl
-    owes_message false true c is generic own = owes_orders (read_order msg.header.cmd msg.args)
-        (eqb-true msg.header.typecookie generic_cookie generic) (order_owes msg.header.cmd msg.args)
-    owes_message false false true is generic own = owes_reply msg A
-        (is_fine (outcome_of (state_of node) (Msg msg)).errno) (eqb-true msg.header.typecookie (cookie_of (kind_at node)) own)
-    owes_message false false false is generic own = owes_refuse item.tag einval
+  reply_row : (msg : Message) (bytes : List ℕ) → class_of (kind_at node) msg ≡ OfKind
+      → (outcome_of (state_of node) (Msg msg)).answer ≡ Some bytes → Presumed → HasRow msg.header.typecookie msg.header.cmd bytes
+  reply_row msg bytes class is presumed =
+      let fine = reply_fine n node.kept (hook_names node) msg.header.cmd msg.args R.own.kept in
+      subst (λ (cookie : ℕ). HasRow cookie msg.header.cmd bytes) (sym (eqb-true _ _ (class_says (kind_at node) msg OfKind class)))
+      (subst (AnswerHasRow (cookie_of (kind_at node)) msg.header.cmd) is (fine.answer (R.few presumed)))
 
-  -- The steps of joins and removals
+  asked_row : (msg : Message) (question : Question) → IsOrder node msg (Asks question) → Presumed
+      → HasRow msg.header.typecookie msg.header.cmd (answer_bytes w item.to node question)
+  asked_row msg question order presumed =
+      let bytes = answer_bytes w item.to node question in
+      subst (λ (cookie : ℕ). HasRow cookie msg.header.cmd bytes) (sym (eqb-true _ _ (class_says (kind_at node) msg AnOrder order.class)))
+      (subst (λ (number : ℕ). HasRow generic_cookie number bytes) (sym (order_is msg _ order)) (question_row question presumed))
 
-  owes_join : (e : Option Errno) (hook : List ℕ) (link : LinkId) (peer : NodeId) (peer_hook : List ℕ) → IsShort hook
-      → IsShort peer_hook → Every O (join item node e hook link peer peer_hook)
-  owes_join None hook link peer peer_hook a b = (with_hook_owes hook link peer peer_hook true a b, (tt, tt))
-  owes_join (Some errno) hook link peer peer_hook a b = (tt, tt)
+  brings_owed : {body brought : Body} {to : NodeId} {tag : Option ℕ} → Brings w item node body to brought tag
+      → BodyOwes Presumed given fed item.tag body → BodyOwes Presumed given fed tag brought
+  brings_owed (ToLearn hook link packet addr is) h =
+      subst IsSixOrNone is (frames_teach node.kept (hook_names node) (ByHook hook) (Some link) packet)
+  brings_owed (Replied msg bytes class is) h = answer_owed msg bytes h (reply_row msg bytes class is)
+  brings_owed (Answered msg question order) h = answer_owed msg _ h (asked_row msg question order)
+  brings_owed (ToLeave body hook) h = tt
+  brings_owed (ToJoin msg path ours theirs peer order) h = let short = order_is msg _ order in (short.1, short.0)
+  brings_owed (ToRebind msg from to a b) h = (every_has IsShortHook node.hooks to R.own.hooks b).1
+  brings_owed (HasJoined hook link peer peer_hook) h = tt
+  brings_owed (HasRefused hook link peer peer_hook errno) h = tt
+  brings_owed (HasGone body p link peer peer_hook waits) h = tt
 
-  owes_settle : (hook : Option Hook) → Every O (settle node hook)
-  owes_settle None = tt
-  owes_settle (Some hook) = (changed_node hook.name settle_hook (λ h short. short), tt)
+  notes_owed : {body : Body} {x : Note} → NotesOf item node body x → BodyOwes Presumed given fed item.tag body
+      → NoteOwes Presumed given fed x
+  notes_owed (Hears msg command class tag) A =
+      let same : A.command ≡ command = cc (A.is) in (
+        subst (λ (c : ℕ). WasAsked given fed c msg.header.typecookie msg.header.cmd) same A.asked,
+        λ presumed. A.row (and_parts _ _ (class_says (kind_at node) msg AnAnswer class)).0 presumed,
+      )
+  notes_owed (Fails body command errno) h = tt
+  notes_owed (CountsRefused body) h = tt
+  notes_owed (LetsOut body exit hook packet leaves) h = tt
+  notes_owed (UsesLink body) h = tt
 
-  owes_undo : (hook : Option Hook) (errno : Errno) → Every O (undo item node hook errno)
-  owes_undo None errno = tt
-  owes_undo (Some hook) errno = (cut_node hook.name, owes_refuse item.tag errno)
+  owes : (body : Body) → BodyOwes Presumed given fed item.tag body → (c : Change) → Occurs w item node body c
+      → Owes Presumed given fed (suc n) c
+  owes body h (Sets now) o = becomes_shaped o h
+  owes body h (Makes kind made) (Peer msg name ours theirs of is) = let short = order_is msg _ is.order in
+      made_node of theirs (link_id w.next_link) ours short.1 short.0
+  owes body h Retires o = tt
+  owes body h (Accepts to brought tag) o = brings_owed o h
+  owes body h (Posts hook packet) o = tt
+  owes body h (Notes x) o = notes_owed o h
 
-  owes_remove : (hook : Option Hook) → Every O (remove_peer_hook w item node hook)
-  owes_remove None = tt
-  owes_remove (Some hook) = owes_cut (without_hook node hook.name) (stays (without_hook node hook.name)) (cut_node hook.name)
-
-  owes_rebind : (hook : Option Hook) (link : LinkId) (peer : NodeId) (peer_hook : List ℕ) → IsShort peer_hook
-      → Every O (rebind node hook link peer peer_hook)
-  owes_rebind None link peer peer_hook short = tt
-  owes_rebind (Some hook) link peer peer_hook short = (
-    changed_node hook.name (bind_to link peer peer_hook)
-        (λ h was. (was.0, short)),
-    tt,
-  )
-
-  owes_learn : (hook : Option Hook) (body : Body) → IsShaped (suc n) (kept_after (state_of node) body)
-      → Every O (learn node hook body)
-  owes_learn None body h = tt
-  owes_learn (Some hook) body h = (owes_becomes (kept_after (state_of node) body) h, tt)
-
-  pub owes_effect : (body : Body) → BodyOwes Presumed given fed item.tag body → Every O (effect_at w item node body)
-  owes_effect (Frame door link packet) h =
-      let out = outcome_of (state_of node) (Frame door link packet) in
-      owes_serve (Frame door link packet) (door_name door) out (learns item.to door link out.learn)
-      (passed_shaped (suc n) node.kept (hook_names node) door out.counts same_node.kept)
-      (owes_learns item.to door link out.learn (frames_teach node.kept (hook_names node) door link packet))
-  owes_effect (Msg msg) h =
-      owes_message msg h (is_answer msg && same_kind (kind_at node) Socket) (msg.header.typecookie == generic_cookie)
-      (msg.header.typecookie == cookie_of (kind_at node)) refl refl refl
-  owes_effect (Join2 hook link peer peer_hook) h = owes_join (hook_refusal node hook) hook link peer peer_hook h.0 h.1
-  owes_effect (Join3 hook link) h = owes_settle (linked_hook node hook link)
-  owes_effect (Undo hook link errno) h = owes_undo (linked_hook node hook link) errno
-  owes_effect (Leave hook link) h = owes_remove (linked_hook node hook link)
-  owes_effect (Rebind hook old new peer peer_hook) h = owes_rebind (linked_hook node hook old) new peer peer_hook h
-  owes_effect (Tick seconds) h = owes_serve (Tick seconds) [] (outcome_of (state_of node) (Tick seconds)) []
-      (ticked_shaped (suc n) node.kept seconds same_node.kept) tt
-  owes_effect (Learn hook link addr) h = owes_learn (linked_hook node hook link) (Learn hook link addr)
-      (learned_shaped n node.kept hook addr h R.own.kept)
+  pub owes_effect : (body : Body) → BodyOwes Presumed given fed item.tag body
+      → Every (Owes Presumed given fed (suc n)) (effect_at w item node body)
+  owes_effect body h = every_imply (Occurs w item node body) (Owes Presumed given fed (suc n)) (owes body h)
+      (effect_at w item node body) (effect_occurs w item node body)

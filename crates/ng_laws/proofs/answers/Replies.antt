@@ -43,9 +43,10 @@ use Rattle.ng_machine.specs.kinds.Macset.{Macset}
 use Rattle.ng_machine.specs.State.{KindState, HubState, HoleState, EchoState, SplitState, SocketState, TeeState, One2manyState}
 use Rattle.ng_machine.specs.State.{BridgeState, VlanState, PatchState, BpfState, EtherState, EtfState, MacsetState, kind_of_kept}
 use Rattle.ng_machine.specs.Case.{reply_of}
-use Rattle.ng_machine.proofs.Owing.{every_filter, every_find}
+use Rattle.ng_machine.proofs.Every.{every_filter, every_find}
 use Rattle.ng_machine.proofs.Replies.{by_number_all}
-use Rattle.ng_machine.proofs.Sounded.{mapped, none_of, is_not}
+use Rattle.ng_machine.proofs.Sounded.{none_of, is_not}
+use Rattle.ng_machine.proofs.Every.{every_map}
 use Rattle.ng_laws.specs.answers.Answers.{HasRow}
 use Rattle.ng_laws.proofs.answers.Rows as table
 use Rattle.ng_laws.proofs.answers.Rows.{IsShort, fewer}
@@ -121,7 +122,7 @@ tee_fine n s number args h =
     let cookie = cookie_of OfTee in
     let cleared : IsShaped n (TeeState (tee.tee_clear s)) = (
       (
-        mapped (λ (row : List ℕ × List ℕ). length row.1 ≡ 4) (λ (row : List ℕ × List ℕ). length row.1 ≡ 4)
+        every_map (λ (row : List ℕ × List ℕ). length row.1 ≡ 4) (λ (row : List ℕ × List ℕ). length row.1 ≡ 4)
             (λ row. (row.0, zeros 4)) (λ row is. refl) s h.0.0,
         length-map s (λ (row : List ℕ × List ℕ). (row.0, zeros 4)) ∙ h.0.1,
       ),
@@ -261,7 +262,7 @@ module _ (n number : ℕ) (s : Bridge) (args : List ℕ) (h : IsShaped n (Bridge
           (
             (λ _. fine_sized BridgeState n cookie number s 0 args _ h
                 (λ _. fine_set BridgeState n cookie number (bridge.bridge_reset s)
-                ((mapped HasCounters HasCounters (λ l. new_link l.number) (λ l is. refl) s.links h.0.0, tt), omega arith))),
+                ((every_map HasCounters HasCounters (λ l. new_link l.number) (λ l is. refl) s.links h.0.0, tt), omega arith))),
             (
               (λ e. bridge_link (λ l. answers s (row_bytes l.counters))
                   (λ l is. fine_answer BridgeState n cookie number s (row_bytes l.counters) h

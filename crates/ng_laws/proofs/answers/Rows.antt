@@ -41,7 +41,7 @@ use Rattle.ng_machine.specs.kinds.Macset.{addresses_bytes}
 use Rattle.ng_machine.specs.World.{World, NodeRecord, node_in, node_at, node_id, kind_at}
 use Rattle.ng_machine.specs.Generic.{joined_hooks, info_of, link_of, hook_list, infos_if, infos_from, with_count, is_of_kind}
 use Rattle.ng_machine.specs.Generic.{type_info}
-use Rattle.ng_machine.proofs.Owing.{every_imply, every_filter}
+use Rattle.ng_machine.proofs.Every.{every_imply, every_filter}
 use Rattle.ng_laws.specs.answers.Answers.{HasLayout, HasRow}
 use Rattle.ng_laws.proofs.answers.Sizes.{fixed_layout, address_each}
 use Rattle.ng_laws.proofs.answers.Layouts.{flat_length, name_length, struct_each, first_layout, first_of_two_layout, program_layout}

@@ -5,10 +5,10 @@ use Rattle.std.specs.Str.{bytes_eq}
 use Rattle.std.proofs.lemmas.List.{length-map}
 use Rattle.byteorder.specs.Endian.{big_number}
 use Rattle.ng_base.specs.declared.kind.Kind.{Kind}
-use Rattle.ng_base.specs.declared.kind.Kind.TheVariants.{Hub as OfHub, Hole as OfHole, Echo as OfEcho, Tee as OfTee}
-use Rattle.ng_base.specs.declared.kind.Kind.TheVariants.{Split as OfSplit, One2many as OfOne2many, Bridge as OfBridge}
-use Rattle.ng_base.specs.declared.kind.Kind.TheVariants.{Vlan as OfVlan, Patch as OfPatch, Bpf as OfBpf, Ether as OfEther}
-use Rattle.ng_base.specs.declared.kind.Kind.TheVariants.{Socket as OfSocket, Etf as OfEtf, Macset as OfMacset}
+use Rattle.ng_base.specs.declared.kind.Kind.TheVariants.{Tee as OfTee}
+use Rattle.ng_base.specs.declared.kind.Kind.TheVariants.{One2many as OfOne2many, Bridge as OfBridge}
+use Rattle.ng_base.specs.declared.kind.Kind.TheVariants.{Patch as OfPatch}
+use Rattle.ng_base.specs.declared.kind.Kind.TheVariants.{Etf as OfEtf, Macset as OfMacset}
 use Rattle.ng_message.specs.Fields.{text_or_empty}
 use Rattle.ng_machine.specs.declared.body.Door.{Door}
 use Rattle.ng_machine.specs.declared.plan.BpfWay.{BpfWay}
@@ -28,8 +28,9 @@ use Rattle.ng_machine.specs.State.{KindState, HubState, HoleState, EchoState, Sp
 use Rattle.ng_machine.specs.State.{BridgeState, VlanState, PatchState, BpfState, EtherState, EtfState, MacsetState, blank_kept}
 use Rattle.ng_machine.specs.State.{kept_with_hook, kept_without_hook, kept_without_hooks}
 use Rattle.ng_machine.specs.Case.{absorb, kept_after_frame, kept_after_tick, kept_after_learn}
-use Rattle.ng_machine.proofs.Owing.{every_push, every_filter}
-use Rattle.ng_machine.proofs.Sounded.{mapped, counts_keep}
+use Rattle.ng_machine.proofs.Every.{every_push, every_filter}
+use Rattle.ng_machine.proofs.Sounded.{counts_keep}
+use Rattle.ng_machine.proofs.Every.{every_map}
 use Rattle.ng_laws.proofs.answers.Rows.{IsShort, fewer}
 
 -- What has the right lengths, and how many elements there are whose number isn't bounded by the state
@@ -82,16 +83,7 @@ size_of (BridgeState s) = length s.hosts
 size_of (VlanState s) = length s.filters
 size_of (EtfState s) = length s.filters
 size_of (MacsetState s) = length s.addresses
-size_of (TeeState rows) = 0
-size_of (One2manyState s) = 0
-size_of (PatchState ops) = 0
-size_of (BpfState s) = 0
-size_of (HubState persistent) = 0
-size_of HoleState = 0
-size_of EchoState = 0
-size_of SplitState = 0
-size_of SocketState = 0
-size_of (EtherState s) = 0
+size_of _ = 0
 
 abbrev pub IsShaped : ℕ → KindState → Type 0
 IsShaped n kept = HasLengths kept × (size_of kept ≤ n)
@@ -100,20 +92,13 @@ pub more_shaped : (n m : ℕ) (kept : KindState) → n ≤ m → IsShaped n kept
 more_shaped n m kept le h = (h.0, let few = h.1 in omega arith)
 
 pub blank_shaped : (kind : Kind) → IsShaped 0 (blank_kept kind)
-blank_shaped OfHub = (tt, omega arith)
-blank_shaped OfHole = (tt, omega arith)
-blank_shaped OfEcho = (tt, omega arith)
 blank_shaped OfTee = (((refl, (refl, (refl, (refl, tt)))), refl), omega arith)
-blank_shaped OfSplit = (tt, omega arith)
 blank_shaped OfOne2many = ((tt, refl), omega arith)
 blank_shaped OfBridge = ((tt, tt), omega arith)
-blank_shaped OfVlan = (tt, omega arith)
 blank_shaped OfPatch = (omega arith, omega arith)
-blank_shaped OfBpf = (tt, omega arith)
-blank_shaped OfEther = (tt, omega arith)
-blank_shaped OfSocket = (tt, omega arith)
 blank_shaped OfEtf = ((tt, refl), omega arith)
 blank_shaped OfMacset = ((tt, refl), omega arith)
+blank_shaped _ = (tt, omega arith)
 
 -- New hooks and cuts
 
@@ -192,7 +177,7 @@ raised_length row number amount = length-set {A = ℕ} row number _
 pub rows_changed : (k : ℕ) (name : List ℕ) (change : List ℕ → List ℕ)
     → ((row : List ℕ) → length row ≡ k → length (change row) ≡ k) → (rows : Rows) → RowsOf k rows
     → RowsOf k (at_row name change rows)
-rows_changed k name change keeps rows h = mapped (λ (row : List ℕ × List ℕ). length row.1 ≡ k)
+rows_changed k name change keeps rows h = every_map (λ (row : List ℕ × List ℕ). length row.1 ≡ k)
     (λ (row : List ℕ × List ℕ). length row.1 ≡ k) _ (λ row is. by row is (bytes_eq row.0 name)) rows h
   where
     by : (row : List ℕ × List ℕ) → length row.1 ≡ k → (b : Bool) → length (if b then (row.0, change row.1) else row).1 ≡ k
@@ -204,7 +189,7 @@ rows_counted k rows c h = rows_changed k c.0 (λ row. raise_at row c.1 c.2) (λ 
 
 pub links_changed : (number : ℕ) (change : Link → Link) → ((l : Link) → HasCounters l → HasCounters (change l))
     → (links : List Link) → Every HasCounters links → Every HasCounters (at_link number change links)
-links_changed number change keeps links h = mapped HasCounters HasCounters _ (λ l is. by l is (has_number number l)) links h
+links_changed number change keeps links h = every_map HasCounters HasCounters _ (λ l is. by l is (has_number number l)) links h
   where
     by : (l : Link) → HasCounters l → (b : Bool) → HasCounters (if b then change l else l)
     by l is true = keeps l is
@@ -213,7 +198,7 @@ links_changed number change keeps links h = mapped HasCounters HasCounters _ (λ
 pub filters_changed : (hook : List ℕ) (change : Filter → Filter)
     → ((f : Filter) → IsShapedFilter f → IsShapedFilter (change f)) → (s : List Filter) → Every IsShapedFilter s
     → Every IsShapedFilter (at_filter hook change s)
-filters_changed hook change keeps s h = mapped IsShapedFilter IsShapedFilter _ (λ f is. by f is (is_of_hook hook f)) s h
+filters_changed hook change keeps s h = every_map IsShapedFilter IsShapedFilter _ (λ f is. by f is (is_of_hook hook f)) s h
   where
     by : (f : Filter) → IsShapedFilter f → (b : Bool) → IsShapedFilter (if b then change f else f)
     by f is true = keeps f is
@@ -221,7 +206,7 @@ filters_changed hook change keeps s h = mapped IsShapedFilter IsShapedFilter _ (
 
 seen_shaped : (number amount : ℕ) (hosts : List Host) → Every HasAddress hosts
     → Every HasAddress (map (see_host number amount) hosts)
-seen_shaped number amount hosts h = mapped HasAddress HasAddress _ (λ x is. by x is (seen_number x.addr == number)) hosts h
+seen_shaped number amount hosts h = every_map HasAddress HasAddress _ (λ x is. by x is (seen_number x.addr == number)) hosts h
   where
     by : (x : Host) → HasAddress x → (b : Bool) → HasAddress (if b then record x { seen = raise x.seen amount } else x)
     by x is true = is
@@ -280,14 +265,7 @@ passed_shaped n (BridgeState s) hooks door counts h = absorb_shaped n (BridgeSta
 passed_shaped n (BpfState s) hooks door counts h = absorb_shaped n (BpfState s) counts h
 passed_shaped n (EtfState s) hooks door counts h = absorb_shaped n (EtfState s) counts h
 passed_shaped n (MacsetState s) hooks door counts h = absorb_shaped n (MacsetState s) counts h
-passed_shaped n (VlanState s) hooks door counts h = h
-passed_shaped n (PatchState ops) hooks door counts h = h
-passed_shaped n (HubState persistent) hooks door counts h = h
-passed_shaped n HoleState hooks door counts h = h
-passed_shaped n EchoState hooks door counts h = h
-passed_shaped n SplitState hooks door counts h = h
-passed_shaped n SocketState hooks door counts h = h
-passed_shaped n (EtherState s) hooks door counts h = h
+passed_shaped n _ hooks door counts h = h
 
 -- Time and learning
 
@@ -295,9 +273,9 @@ pub ticked_shaped : (n : ℕ) (kept : KindState) (seconds : ℕ) → IsShaped n 
 ticked_shaped n (BridgeState s) seconds h =
     let aged = map (λ (x : Host). age_host seconds (rest_host x)) s.hosts in (
       (
-        mapped HasCounters HasCounters (calm_link seconds) (λ l is. is) s.links h.0.0,
+        every_map HasCounters HasCounters (calm_link seconds) (λ l is. is) s.links h.0.0,
         every_filter HasAddress (λ (x : Host). nat_lt x.staleness s.config.max_staleness) aged
-            (mapped HasAddress HasAddress (λ (x : Host). age_host seconds (rest_host x))
+            (every_map HasAddress HasAddress (λ (x : Host). age_host seconds (rest_host x))
             (λ x is. by x is (nat_lt 0 x.seen)) s.hosts h.0.1),
       ),
       (let few = h.1 in omega (

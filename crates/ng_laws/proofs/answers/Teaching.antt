@@ -20,8 +20,8 @@ use Rattle.ng_machine.specs.kinds.Bridge.{bridges, meets, Standing, Known, Loope
 use Rattle.ng_machine.specs.kinds.Bridge.{counts_group, arrival_counts, one_more, recv_runts, recv_invalid, recv_broadcasts}
 use Rattle.ng_machine.specs.kinds.Bridge.{recv_multicasts, loop_drops, destination_of, link_way, host_way}
 use Rattle.ng_machine.specs.kinds.Macset.{is_group, source_of}
-use Rattle.ng_machine.specs.State.{KindState, kind_of_kept, HubState, HoleState, EchoState, SplitState, SocketState, TeeState, One2manyState}
-use Rattle.ng_machine.specs.State.{BridgeState, VlanState, PatchState, BpfState, EtherState, EtfState, MacsetState}
+use Rattle.ng_machine.specs.State.{KindState, kind_of_kept}
+use Rattle.ng_machine.specs.State.{BridgeState}
 use Rattle.ng_machine.specs.Case.{outcome_of}
 use Rattle.ng_machine.proofs.Teaching as learning
 use Rattle.ng_laws.proofs.answers.Shapes.{IsSix}
@@ -77,19 +77,7 @@ none_is (Some address) e = absurd (cc e)
 bridges_teach : (kept : KindState) (hooks : List (List ℕ)) (door : Door) (link : Option LinkId) (packet : List ℕ) → kind_of_kept kept ≡ BridgeKind
     → IsSixOrNone (outcome_of (record { hooks = hooks; kept = kept }) (Frame door link packet)).learn
 bridges_teach (BridgeState s) hooks door link packet is = bridge_teaches s.config (map link_way s.links) (map host_way s.hosts) door packet
-bridges_teach (HubState persistent) hooks door link packet is = absurd (cc is)
-bridges_teach HoleState hooks door link packet is = absurd (cc is)
-bridges_teach EchoState hooks door link packet is = absurd (cc is)
-bridges_teach (TeeState rows) hooks door link packet is = absurd (cc is)
-bridges_teach SplitState hooks door link packet is = absurd (cc is)
-bridges_teach (One2manyState s) hooks door link packet is = absurd (cc is)
-bridges_teach (VlanState s) hooks door link packet is = absurd (cc is)
-bridges_teach (PatchState ops) hooks door link packet is = absurd (cc is)
-bridges_teach (BpfState s) hooks door link packet is = absurd (cc is)
-bridges_teach (EtherState s) hooks door link packet is = absurd (cc is)
-bridges_teach SocketState hooks door link packet is = absurd (cc is)
-bridges_teach (EtfState s) hooks door link packet is = absurd (cc is)
-bridges_teach (MacsetState s) hooks door link packet is = absurd (cc is)
+bridges_teach _ hooks door link packet is = absurd (cc is)
 
 pub frames_teach : (kept : KindState) (hooks : List (List ℕ)) (door : Door) (link : Option LinkId) (packet : List ℕ)
     → IsSixOrNone (outcome_of (record { hooks = hooks; kept = kept }) (Frame door link packet)).learn

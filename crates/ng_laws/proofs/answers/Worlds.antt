@@ -14,7 +14,6 @@ use Rattle.ng_base.specs.declared.ids.Stamp.{Stamp}
 use Rattle.ng_base.specs.declared.kind.Kind.{Kind}
 use Rattle.ng_base.specs.declared.kind.Kind.TheVariants.{Ether, Socket}
 use Rattle.ng_base.proofs.NameLemmas.{length-name}
-use Rattle.ng_path.specs.Address.{Address, read_address}
 use Rattle.ng_message.specs.Numbers.{generic_cookie}
 use Rattle.ng_machine.specs.declared.body.Body.{Body}
 use Rattle.ng_machine.specs.declared.body.Body.TheVariants.{Frame, Msg, Join2, Join3, Undo, Leave, Rebind, Tick, Learn}
@@ -30,16 +29,14 @@ use Rattle.ng_machine.specs.declared.told.Told.TheVariants.{Line, Refused, Help,
 use Rattle.ng_machine.specs.Words.{Has, Every}
 use Rattle.ng_machine.specs.Body.{is_writer, is_at, has_id}
 use Rattle.ng_machine.specs.World.{World, NodeRecord, blank_node, kind_at, node_at, hook_at, node_id, port_node, port_of}
-use Rattle.ng_machine.specs.World.{own_node}
-use Rattle.ng_machine.specs.Walk.{walk}
 use Rattle.ng_machine.specs.Change.{Change, Sets, Makes, Retires, Accepts, Posts, Notes, Note, Tells, Refuses, Exits, Links}
 use Rattle.ng_machine.specs.Change.{accept, accept_at, arrival, send_if, send_joined, send_by, frames, most_frames, tell, wire_if}
 use Rattle.ng_machine.specs.Change.{read_if, leave, spool_with, most_spool, note, set_node, retire, change, change_all}
 use Rattle.ng_machine.specs.Effect.{effect, effect_at, is_hook_gone, take_out, finish, apply_if, apply_item, apply_found}
-use Rattle.ng_machine.specs.Feed.{RunInput, Reading, NoSuchMessage, BadArguments, Reads, Request, RefusedFor, Helps, Nothing}
-use Rattle.ng_machine.specs.Feed.{Orders, Asks, Writes, request_of, refuse_line, send_message, order_to, order_at, ask_read}
-use Rattle.ng_machine.specs.Feed.{ask_row, ask_to, ask_at, write_to, write_if, write_by, feed_request, begin_command}
-use Rattle.ng_machine.specs.Feed.{feed_command, arrive, is_bridge, feed_tick, feed_ticks, feed_input, feed_next}
+use Rattle.ng_machine.specs.Feed.{RunInput, Request}
+use Rattle.ng_machine.specs.Feed.{Orders, Asks, request_of, refuse_line, send_message}
+use Rattle.ng_machine.specs.Feed.{begin_command}
+use Rattle.ng_machine.specs.Feed.{feed_command, arrive, feed_ticks, feed_input, feed_next}
 use Rattle.ng_machine.specs.Run.{RunState, Taken, after, after_all}
 use Rattle.ng_machine.specs.Orderly.{AllowedEvent, OrderlyFrom}
 use Rattle.ng_machine.specs.Laws.{Setting, start}
@@ -49,7 +46,9 @@ use Rattle.ng_machine.proofs.NodeLists.{same_row}
 use Rattle.ng_machine.proofs.Quieted.{input_quietly}
 use Rattle.ng_machine.proofs.Kept.{SoundAt, all_applies, all_fed, applies_quietly, fed_quietly}
 use Rattle.ng_machine.proofs.Moves.{KeptAt, kept_event, held_item}
-use Rattle.ng_machine.proofs.Owing.{every_push, every_imply}
+use Rattle.ng_machine.proofs.Requests.{Requested, Refuses, Explains, Ends, ByOrder, ByName, ByHook as BySend, requested}
+use Rattle.ng_machine.proofs.Requests.{ticks_keep}
+use Rattle.ng_machine.proofs.Every.{every_push, every_imply}
 use Rattle.ng_laws.specs.answers.Answers.{IsRequestFor, IsCommandThat, WasFed, WasAsked, HasNames}
 use Rattle.ng_laws.proofs.answers.Rows.{IsShort}
 use Rattle.ng_laws.proofs.answers.Shapes.{blank_shaped}
@@ -259,61 +258,6 @@ module _ (Presumed : Type 0) (given : RunInput) (fed n : ℕ) where
       shape_accept_at w to o _ (Some command) w.clock (record
       { command = command; is = refl; asked = asked; row = λ is presumed. absurd (true≢false (sym is)) }) h
 
-  shape_order_to : (w : World) (command : ℕ) (to : Option NodeId) (number : ℕ) (name args : List ℕ)
-      → WasAsked given fed command generic_cookie number → H w → H (order_to w command to number name args)
-  shape_order_to w command None number name args asked h = shape_refusal w command _ _ h
-  shape_order_to w command (Some to) number name args asked h =
-      shape_message w to (node_at w to) command generic_cookie number name args asked h
-
-  shape_order_at : (w : World) (command : ℕ) (address : Option Address) (number : ℕ) (name args : List ℕ)
-      → WasAsked given fed command generic_cookie number → H w → H (order_at w command address number name args)
-  shape_order_at w command None number name args asked h = shape_refusal w command _ _ h
-  shape_order_at w command (Some address) number name args asked h =
-      shape_order_to w command (walk w own_node address) number name args asked h
-
-  -- whatever is shape_read for some type of node was asked for
-  abbrev MayAsk : ℕ → List ℕ → List ℕ → Type 0
-  MayAsk command name text = (kind : Kind) (cookie number : ℕ) (args : List ℕ)
-      → given.reading kind name text ≡ Reads cookie number args → WasAsked given fed command cookie number
-
-  shape_ask_read : (w : World) (command : ℕ) (to : NodeId) (o : Option NodeRecord) (name : List ℕ) (r : Reading)
-      → ((cookie number : ℕ) (args : List ℕ) → r ≡ Reads cookie number args → WasAsked given fed command cookie number)
-      → H w → H (ask_read w command to o name r)
-  shape_ask_read w command to o name NoSuchMessage asked h = shape_refusal w command _ _ h
-  shape_ask_read w command to o name (BadArguments why) asked h = shape_refusal w command _ _ h
-  shape_ask_read w command to o name (Reads cookie number args) asked h =
-      shape_message w to o command cookie number name args (asked cookie number args refl) h
-
-  shape_ask_row : (w : World) (command : ℕ) (to : NodeId) (o : Option NodeRecord) (name text : List ℕ)
-      → MayAsk command name text → H w → H (ask_row given w command to o name text)
-  shape_ask_row w command to None name text asked h = shape_refusal w command _ _ h
-  shape_ask_row w command to (Some node) name text asked h =
-      shape_ask_read w command to (Some node) name (given.reading (kind_at node) name text) (asked (kind_at node)) h
-
-  shape_ask_to : (w : World) (command : ℕ) (to : Option NodeId) (name text : List ℕ) → MayAsk command name text → H w
-      → H (ask_to given w command to name text)
-  shape_ask_to w command None name text asked h = shape_refusal w command _ _ h
-  shape_ask_to w command (Some to) name text asked h = shape_ask_row w command to (node_at w to) name text asked h
-
-  shape_ask_at : (w : World) (command : ℕ) (address : Option Address) (name text : List ℕ) → MayAsk command name text
-      → H w → H (ask_at given w command address name text)
-  shape_ask_at w command None name text asked h = shape_refusal w command _ _ h
-  shape_ask_at w command (Some address) name text asked h = shape_ask_to w command (walk w own_node address) name text asked h
-
-  shape_write_to : (w : World) (command : ℕ) (hook : Hook) (o : Option NodeRecord) (bytes : List ℕ) → H w
-      → H (write_to w command hook o bytes)
-  shape_write_to w command hook None bytes h = shape_refusal w command _ _ h
-  shape_write_to w command hook (Some node) bytes h = shape_accept w hook.peer.node (kind_at node)
-      (arrival hook bytes) None w.clock tt h
-
-  shape_write_if : (w : World) (command : ℕ) (hook : Hook) (b : Bool) (bytes : List ℕ) → H w → H (write_if w command hook b bytes)
-  shape_write_if w command hook false bytes h = shape_refusal w command _ _ h
-  shape_write_if w command hook true bytes h = shape_write_to w command hook (node_at w hook.peer.node) bytes h
-
-  shape_write_by : (w : World) (command : ℕ) (o : Option Hook) (bytes : List ℕ) → H w → H (write_by w command o bytes)
-  shape_write_by w command None bytes h = shape_refusal w command _ _ h
-  shape_write_by w command (Some hook) bytes h = shape_write_if w command hook hook.joined bytes h
-
   -- the command of this number requests what meets P
   abbrev Fed : (Request → Type 0) → ℕ → Type 0
   Fed P command = WasFed given fed P command
@@ -335,32 +279,30 @@ module _ (Presumed : Type 0) (given : RunInput) (fed n : ℕ) where
         command_that P Q number f h.input h.is;
   }
 
-  shape_request : (w : World) (command : ℕ) (r : Request) → Fed (λ q. q ≡ r) command → H w → H (feed_request given w command r)
-  shape_request w command (RefusedFor why) was h = shape_refusal w command _ _ h
-  shape_request w command Helps was h = shape_tell w _ was h
-  shape_request w command Nothing was h = h
-  shape_request w command (Orders path number name args) was h = shape_order_at w command (read_address path) number name args
+  shape_request : (w : World) (command : ℕ) {r : Request} {v : World} → Requested given w command r v → Fed (λ q. q ≡ r) command
+      → H w → H v
+  shape_request w command (Refuses r errno why) was h = shape_refusal w command _ _ h
+  shape_request w command Explains was h = shape_tell w _ was h
+  shape_request w command Ends was h = h
+  shape_request w command (ByOrder path name args number to o there) was h =
+      shape_message w to o command generic_cookie number name args
       (fed_that (λ q. q ≡ Orders path number name args) (λ q. IsRequestFor given q generic_cookie number) command
       (λ q e. subst (λ (x : Request). IsRequestFor given x generic_cookie number) (sym e) (refl, refl)) was) h
-  shape_request w command (Asks path name text) was h = shape_ask_at w command (read_address path) name text
-      (λ kind cookie number args is. fed_that (λ q. q ≡ Asks path name text)
-      (λ q. IsRequestFor given q cookie number) command
-      (λ q e. subst (λ (x : Request). IsRequestFor given x cookie number) (sym e) (kind, args, is)) was) h
-  shape_request w command (Writes hook bytes) was h = shape_write_by w command (hook_at (node_at w own_node) hook) bytes h
+  shape_request w command (ByName path name text args cookie number to node there reads) was h =
+      shape_message w to (Some node) command cookie number name args
+      (fed_that (λ q. q ≡ Asks path name text) (λ q. IsRequestFor given q cookie number) command
+      (λ q e. subst (λ (x : Request). IsRequestFor given x cookie number) (sym e) (kind_at node, args, reads)) was) h
+  shape_request w command (BySend name bytes hook node there) was h =
+      shape_accept w hook.peer.node (kind_at node) (arrival hook bytes) None w.clock tt h
 
   shape_line : (w : World) (line : CommandLine) → Fed (λ q. q ≡ request_of line.what) line.number → H w
       → H (feed_command given w line)
-  shape_line w line was h = shape_request (begin_command w line.number) line.number (request_of line.what) was
+  shape_line w line was h = shape_request (begin_command w line.number) line.number (requested given (begin_command w line.number) line.number (request_of line.what)) was
       (shape_tell (record w { command = line.number }) (Line line.number) tt (shape_same w _ refl refl refl h))
 
-  shape_tick : (w : World) (seconds m : ℕ) (b : Bool) → H w → H (feed_tick w seconds m b)
-  shape_tick w seconds m false h = h
-  shape_tick w seconds m true h = shape_accept_at w (node_id m) (node_at w (node_id m)) _ None w.clock tt h
-
   shape_ticks : (w : World) (seconds m : ℕ) (nodes : List (Option NodeRecord)) → H w → H (feed_ticks w seconds m nodes)
-  shape_ticks w seconds m [] h = h
-  shape_ticks w seconds m (node ∷ nodes) h = shape_ticks (feed_tick w seconds m (is_bridge node)) seconds (m + 1) nodes
-      (shape_tick w seconds m (is_bridge node) h)
+  shape_ticks w seconds m nodes h = ticks_keep H seconds
+      (λ v k was. shape_accept_at v (node_id k) (node_at v (node_id k)) _ None v.clock tt was) w m nodes h
 
   pub shape_input : (w : World) (place : ℕ) (input : Input) → place < fed → slice_get given.inputs place ≡ Some input
       → H w → H (feed_input given w input)

@@ -8,7 +8,7 @@ use Rattle.ng_machine.specs.declared.input.Input.{Input}
 use Rattle.ng_machine.specs.declared.input.Input.TheVariants.{Command as Fed, Late as FedLate, Tick}
 use Rattle.ng_machine.specs.Feed.{later}
 use Rattle.ng_machine.specs.Words.{Every}
-use Rattle.ng_machine.proofs.Owing.{every_filter}
+use Rattle.ng_machine.proofs.Every.{every_filter}
 use Rattle.ngctl_script.specs.declared.when.When.{When}
 use Rattle.ngctl_script.specs.declared.feed.arrival.Arrival.{Arrival}
 use Rattle.ngctl_script.specs.feed.Merge.{Packets, earlier, next_from, without_first, without_next, packet_count, taken, merged_in, merged}

@@ -7,7 +7,7 @@ use Rattle.byteorder.specs.Numbers.{little_from-take}
 use Rattle.ng_base.proofs.NameLemmas.{same_name}
 use Rattle.ng_shape.specs.Shape.{Shape, UInt, Hex, Str, Struct, Counted, Fields, no_fields, field}
 use Rattle.ng_shape.specs.Shape.{CountField, Own, Inside}
-use Rattle.ng_shape.specs.Values.{Value, Absent, Number, Text, Group, number, members, find, count_in}
+use Rattle.ng_shape.specs.Values.{Value, Absent, number, members, find, count_in}
 use Rattle.ng_shape.specs.Layout.{gap, end_gap, counts_nothing}
 use Rattle.ng_shape.specs.Decoding.{Read, ◌>>=◌, take_exactly, given, number_value, group_value}
 use Rattle.ng_shape.specs.Decoding.{number_in, array_in, as_group, all_read, value_in, read_fields, value_from}
@@ -128,9 +128,7 @@ counted_length c e max s w bytes each ok =
 
 find_here : (i : ℕ) (v : Value) → find i (given i v) ≡ v
 find_here i Absent = refl
-find_here i (Number left n) = rw (eq-eqb i i refl) refl
-find_here i (Text bs) = rw (eq-eqb i i refl) refl
-find_here i (Group left ms) = rw (eq-eqb i i refl) refl
+find_here i _ = rw (eq-eqb i i refl) refl
 
 number_is : (n : ℕ) → number (number_value n) ≡ n
 number_is zero = refl

@@ -8,7 +8,7 @@ use Rattle.ng_machine.specs.Feed.{request_of}
 use Rattle.ng_machine.specs.KnownRun.{FitsInput, FitsRequest}
 use Rattle.ng_machine.specs.Refusal.{is_command}
 use Rattle.ng_machine.specs.Words.{Every, times}
-use Rattle.ng_machine.proofs.Owing.{every_imply}
+use Rattle.ng_machine.proofs.Every.{every_imply}
 use Rattle.ngctl_script.specs.Held.{AreFrom}
 use Rattle.ngctl_script.specs.declared.feed.arrival.Arrival.{Arrival}
 use Rattle.ngctl_script.specs.feed.Inputs.{Timed, packet_input, inputs_of}

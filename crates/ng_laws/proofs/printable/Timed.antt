@@ -19,15 +19,14 @@ use Rattle.ng_machine.specs.declared.input.Input.TheVariants.{Command, Late, Pac
 use Rattle.ng_machine.specs.declared.item.Item.{Item}
 use Rattle.ng_machine.specs.Words.{Every}
 use Rattle.ng_machine.specs.Body.{is_at, has_id}
-use Rattle.ng_machine.specs.World.{World, NodeRecord, Port, blank_port, kind_at, node_at, is_there, hook_at, port_node, port_of, own_node}
-use Rattle.ng_path.specs.Address.{Address, read_address}
-use Rattle.ng_machine.specs.Walk.{walk}
+use Rattle.ng_machine.specs.World.{World, NodeRecord, Port, blank_port, kind_at, node_at, is_there, hook_at, port_node, port_of}
 use Rattle.ng_machine.specs.Change.{Change, Sets, Makes, Retires, Accepts, Posts, Notes, Note, Tells, Refuses, Exits, Links, accept, accept_at, arrival, send_if, send_joined, send_by, frames, most_frames, port_at, wire_if, read_if, leave, spool_with, most_spool, note, set_node, change, change_all}
 use Rattle.ng_machine.specs.Effect.{effect, is_hook_gone, take_out, finish, apply_if, apply_item, apply_found, apply}
-use Rattle.ng_machine.specs.Feed.{RunInput, Reading, NoSuchMessage, BadArguments, Reads, Request, RefusedFor, Helps, Nothing, Orders, Asks, Writes, request_of, order_to, order_at, ask_read, ask_row, ask_to, ask_at, write_to, write_if, write_by, feed_request, begin_command, feed_command, arrive, is_bridge, feed_tick, feed_ticks, feed_input, feed_next}
+use Rattle.ng_machine.specs.Feed.{RunInput, Request, request_of, begin_command, feed_command, arrive, feed_ticks, feed_input, feed_next}
 use Rattle.ng_machine.specs.Run.{RunState, after, after_all, beginning}
 use Rattle.ng_machine.specs.Laws.{Setting, start, world_after}
-use Rattle.ng_machine.proofs.Owing.{every_push, every_filter}
+use Rattle.ng_machine.proofs.Requests.{Requested, Ends, ByOrder, ByName, ByHook, requested, ticks_keep}
+use Rattle.ng_machine.proofs.Every.{every_push, every_filter}
 use Rattle.ng_laws.specs.printable.Printable.{IsBefore}
 
 abbrev pub LeftBefore : ℕ → Port → Type 0
@@ -158,63 +157,21 @@ module _ (limit : ℕ) where
 
   -- Inputs
 
-  timed_order : (w : World) (command : ℕ) (o : Option NodeId) (number : ℕ) (name args : List ℕ) → Timed w → Timed (order_to w command o number name args)
-  timed_order w command None number name args T = same_times w _ refl refl refl T
-  timed_order w command (Some to) number name args T = timed_accept_at w to (node_at w to) _ (Some command) w.clock T.clock T
-
-  timed_order_at : (w : World) (command : ℕ) (o : Option Address) (number : ℕ) (name args : List ℕ) → Timed w → Timed (order_at w command o number name args)
-  timed_order_at w command None number name args T = same_times w _ refl refl refl T
-  timed_order_at w command (Some address) number name args T = timed_order w command (walk w own_node address) number name args T
-
-  timed_ask_read : (w : World) (command : ℕ) (to : NodeId) (o : Option NodeRecord) (name : List ℕ) (r : Reading) → Timed w → Timed (ask_read w command to o name r)
-  timed_ask_read w command to o name NoSuchMessage T = same_times w _ refl refl refl T
-  timed_ask_read w command to o name (BadArguments why) T = same_times w _ refl refl refl T
-  timed_ask_read w command to o name (Reads cookie number args) T = timed_accept_at w to o _ (Some command) w.clock T.clock T
-
-  timed_ask_row : (given : RunInput) (w : World) (command : ℕ) (to : NodeId) (o : Option NodeRecord) (name text : List ℕ) → Timed w → Timed (ask_row given w command to o name text)
-  timed_ask_row given w command to None name text T = same_times w _ refl refl refl T
-  timed_ask_row given w command to (Some node) name text T = timed_ask_read w command to (Some node) name (given.reading (kind_at node) name text) T
-
-  timed_ask_to : (given : RunInput) (w : World) (command : ℕ) (o : Option NodeId) (name text : List ℕ) → Timed w → Timed (ask_to given w command o name text)
-  timed_ask_to given w command None name text T = same_times w _ refl refl refl T
-  timed_ask_to given w command (Some to) name text T = timed_ask_row given w command to (node_at w to) name text T
-
-  timed_ask_at : (given : RunInput) (w : World) (command : ℕ) (o : Option Address) (name text : List ℕ) → Timed w → Timed (ask_at given w command o name text)
-  timed_ask_at given w command None name text T = same_times w _ refl refl refl T
-  timed_ask_at given w command (Some address) name text T = timed_ask_to given w command (walk w own_node address) name text T
-
-  timed_write_to : (w : World) (command : ℕ) (hook : Hook) (o : Option NodeRecord) (bytes : List ℕ) → Timed w → Timed (write_to w command hook o bytes)
-  timed_write_to w command hook None bytes T = same_times w _ refl refl refl T
-  timed_write_to w command hook (Some node) bytes T = timed_accept w hook.peer.node (kind_at node) (arrival hook bytes) None w.clock T.clock T
-
-  timed_write_if : (w : World) (command : ℕ) (hook : Hook) (b : Bool) (bytes : List ℕ) → Timed w → Timed (write_if w command hook b bytes)
-  timed_write_if w command hook false bytes T = same_times w _ refl refl refl T
-  timed_write_if w command hook true bytes T = timed_write_to w command hook (node_at w hook.peer.node) bytes T
-
-  timed_write_by : (w : World) (command : ℕ) (o : Option Hook) (bytes : List ℕ) → Timed w → Timed (write_by w command o bytes)
-  timed_write_by w command None bytes T = same_times w _ refl refl refl T
-  timed_write_by w command (Some hook) bytes T = timed_write_if w command hook hook.joined bytes T
-
-  timed_request : (given : RunInput) (w : World) (command : ℕ) (request : Request) → Timed w → Timed (feed_request given w command request)
-  timed_request given w command (RefusedFor why) T = same_times w _ refl refl refl T
-  timed_request given w command Helps T = same_times w _ refl refl refl T
-  timed_request given w command Nothing T = T
-  timed_request given w command (Orders path number name args) T = timed_order_at w command (read_address path) number name args T
-  timed_request given w command (Asks path name text) T = timed_ask_at given w command (read_address path) name text T
-  timed_request given w command (Writes hook bytes) T = timed_write_by w command (hook_at (node_at w own_node) hook) bytes T
+  timed_request : (given : RunInput) (w : World) (command : ℕ) {r : Request} {v : World} → Requested given w command r v → Timed w → Timed v
+  timed_request given w command Ends T = T
+  timed_request given w command (ByOrder path name args number to o there) T = timed_accept_at w to o _ (Some command) w.clock T.clock T
+  timed_request given w command (ByName path name text args cookie number to node there reads) T =
+      timed_accept_at w to (Some node) _ (Some command) w.clock T.clock T
+  timed_request given w command (ByHook name bytes hook node there) T =
+      timed_accept w hook.peer.node (kind_at node) (arrival hook bytes) None w.clock T.clock T
+  timed_request given w command _ T = same_times w _ refl refl refl T
 
   timed_command : (given : RunInput) (w : World) (line : CommandLine) → Timed w → Timed (feed_command given w line)
   timed_command given w line T =
-      timed_request given (begin_command w line.number) line.number (request_of line.what) (same_times w (begin_command w line.number) refl refl refl T)
-
-  timed_tick : (w : World) (seconds n : ℕ) (b : Bool) → Timed w → Timed (feed_tick w seconds n b)
-  timed_tick w seconds n false T = T
-  timed_tick w seconds n true T = timed_accept_at w _ (node_at w _) _ None w.clock T.clock T
+      timed_request given (begin_command w line.number) line.number (requested given (begin_command w line.number) line.number (request_of line.what)) (same_times w (begin_command w line.number) refl refl refl T)
 
   timed_ticks : (w : World) (seconds n : ℕ) (nodes : List (Option NodeRecord)) → Timed w → Timed (feed_ticks w seconds n nodes)
-  timed_ticks w seconds n [] T = T
-  timed_ticks w seconds n (node ∷ nodes) T =
-      timed_ticks (feed_tick w seconds n (is_bridge node)) seconds (n + 1) nodes (timed_tick w seconds n (is_bridge node) T)
+  timed_ticks w seconds n nodes T = ticks_keep Timed seconds (λ v m V. timed_accept_at v _ (node_at v _) _ None v.clock V.clock V) w n nodes T
 
   timed_arrive : (w : World) (port : ℕ) (stamp : Stamp) → stamp.0 < limit → Timed w → Timed (arrive w port stamp)
   timed_arrive w port stamp lt T = record {

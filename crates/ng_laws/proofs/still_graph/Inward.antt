@@ -151,14 +151,10 @@ ether_orderly has_lower (ByHook hook) packet = by (bytes_eq hook lower)
 pub followed_orderly : (kept : KindState) (hooks : List (List ℕ)) (door : Door) (packet : List ℕ) → is_followed (kind_of_kept kept) ≡ true → Orderly (kind_of_kept kept) (outcome_by_plan (record { hooks = hooks; kept = kept }) (way_of_kept kept hooks) door packet)
 followed_orderly (One2manyState s) hooks door packet e = absurd (true≢false (sym e))
 followed_orderly (BridgeState s) hooks door packet e = absurd (true≢false (sym e))
-followed_orderly (HubState s) hooks Wire packet e = record { learn = refl; leaves = tt }
 followed_orderly (HubState s) hooks (ByHook hook) packet e = record { learn = refl; leaves = tt }
 followed_orderly HoleState hooks door packet e = record { learn = refl; leaves = tt }
-followed_orderly EchoState hooks Wire packet e = record { learn = refl; leaves = tt }
 followed_orderly EchoState hooks (ByHook hook) packet e = record { learn = refl; leaves = tt }
-followed_orderly (TeeState s) hooks Wire packet e = record { learn = refl; leaves = tt }
 followed_orderly (TeeState s) hooks (ByHook hook) packet e = record { learn = refl; leaves = tt }
-followed_orderly SocketState hooks Wire packet e = record { learn = refl; leaves = tt }
 followed_orderly SocketState hooks (ByHook hook) packet e = record { learn = refl; leaves = (tt, tt) }
 followed_orderly SplitState hooks door packet e = ordered _ _ (split_inside hooks door packet)
 followed_orderly (VlanState s) hooks door packet e = ordered _ _ (vlan_inside hooks s.kind s.filters door packet)
@@ -167,3 +163,4 @@ followed_orderly (BpfState s) hooks door packet e = ordered _ _ (bpf_inside (map
 followed_orderly (EtherState s) hooks door packet e = ether_orderly (has_name hooks lower) door packet
 followed_orderly (EtfState s) hooks door packet e = ordered _ _ (etf_inside hooks s.filters door packet)
 followed_orderly (MacsetState s) hooks door packet e = ordered _ _ (macset_inside hooks s.addresses door packet)
+followed_orderly _ hooks Wire packet e = record { learn = refl; leaves = tt }

@@ -10,7 +10,7 @@ use Rattle.ng_base.specs.declared.ids.LinkId.{LinkId}
 use Rattle.ng_base.specs.declared.ids.NodeId.{NodeId}
 use Rattle.ng_base.specs.declared.ids.Stamp.{Stamp}
 use Rattle.ng_base.specs.declared.kind.Kind.{Kind}
-use Rattle.ng_base.specs.declared.kind.Kind.TheVariants.{Hub, Hole, Echo, Tee, Split, One2many, Bridge, Vlan, Patch, Bpf, Ether, Socket, Etf, Macset}
+use Rattle.ng_base.specs.declared.kind.Kind.TheVariants.{One2many}
 use Rattle.ng_machine.specs.declared.body.Body.{Body}
 use Rattle.ng_machine.specs.declared.body.Body.TheVariants.{Frame, Msg, Join2, Join3, Undo, Leave, Rebind, Tick, Learn}
 use Rattle.ng_machine.specs.declared.body.Door.{Door}
@@ -24,10 +24,10 @@ use Rattle.ng_machine.specs.declared.item.Item.{Item}
 use Rattle.ng_machine.specs.declared.outcome.Outcome.{Outcome}
 use Rattle.ng_machine.specs.Words.{Has, Every}
 use Rattle.ng_machine.specs.Body.{writes_by_packets, has_id, is_frame}
-use Rattle.ng_machine.specs.State.{KindState, HubState, HoleState, EchoState, SplitState, SocketState, TeeState, One2manyState, BridgeState, VlanState, PatchState, BpfState, EtherState, EtfState, MacsetState, kind_of_kept, way_of_kept}
+use Rattle.ng_machine.specs.State.{KindState, BridgeState, kind_of_kept, way_of_kept}
 use Rattle.ng_machine.specs.Case.{outcome_of, kept_after, kept_after_tick, kept_after_learn}
 use Rattle.ng_machine.specs.World.{World, NodeRecord, node_in, node_at, kind_at, is_there, state_of, hook_at, hook_names, linked_hook, node_id, port_node, port_of}
-use Rattle.ng_machine.specs.Change.{Change, Sets, Makes, Retires, Accepts, Posts, Notes, Note, Tells, Refuses, Exits, Links, accept_at, send_if, send_joined, send_by, frames, most_frames, wire_if, read_if, spool_with, most_spool, leave, note, set_node, change, change_all}
+use Rattle.ng_machine.specs.Change.{Change, Sets, Makes, Retires, Accepts, Posts, Notes, Note, Exits, accept_at, send_if, send_joined, send_by, frames, most_frames, wire_if, read_if, spool_with, most_spool, leave, note, set_node, change, change_all}
 use Rattle.ng_machine.specs.Effect.{door_name, exits, posts, is_fine, counts_unless, becomes, learns, serve, learn, effect, effect_at, is_hook_gone, take_out, finish, apply_if, apply_item, apply_found}
 use Rattle.ng_machine.specs.Feed.{RunInput, arrive, is_bridge, feed_tick, feed_ticks, feed_next}
 use Rattle.ng_machine.specs.Run.{RunState, after, after_all, beginning}
@@ -49,12 +49,7 @@ abbrev pub is_passing : Body → Bool
 is_passing (Frame door link packet) = true
 is_passing (Tick seconds) = true
 is_passing (Learn hook link addr) = true
-is_passing (Msg msg) = false
-is_passing (Join2 hook link peer peer_hook) = false
-is_passing (Join3 hook link) = false
-is_passing (Undo hook link errno) = false
-is_passing (Leave hook link) = false
-is_passing (Rebind hook old new peer peer_hook) = false
+is_passing _ = false
 
 abbrev pub OnlyPassing : List Item → Type 0
 OnlyPassing pending = (item : Item) → Has item pending → is_passing item.body ≡ true
@@ -63,51 +58,15 @@ OnlyPassing pending = (item : Item) → Has item pending → is_passing item.bod
 
 followed_reads : (kind : Kind) → is_followed kind ≡ true → writes_by_packets kind ≡ false
 followed_reads One2many e = absurd (true≢false (sym e))
-followed_reads Bridge e = refl
-followed_reads Hub e = refl
-followed_reads Hole e = refl
-followed_reads Echo e = refl
-followed_reads Tee e = refl
-followed_reads Split e = refl
-followed_reads Vlan e = refl
-followed_reads Patch e = refl
-followed_reads Bpf e = refl
-followed_reads Ether e = refl
-followed_reads Socket e = refl
-followed_reads Etf e = refl
-followed_reads Macset e = refl
+followed_reads _ e = refl
 
 ticked_part : (kept : KindState) (seconds : ℕ) → is_followed (kind_of_kept kept) ≡ true → kept_after_tick kept seconds ≡ kept
 ticked_part (BridgeState s) seconds e = absurd (true≢false (sym e))
-ticked_part (One2manyState s) seconds e = refl
-ticked_part (HubState s) seconds e = refl
-ticked_part HoleState seconds e = refl
-ticked_part EchoState seconds e = refl
-ticked_part SplitState seconds e = refl
-ticked_part SocketState seconds e = refl
-ticked_part (TeeState s) seconds e = refl
-ticked_part (VlanState s) seconds e = refl
-ticked_part (PatchState s) seconds e = refl
-ticked_part (BpfState s) seconds e = refl
-ticked_part (EtherState s) seconds e = refl
-ticked_part (EtfState s) seconds e = refl
-ticked_part (MacsetState s) seconds e = refl
+ticked_part _ seconds e = refl
 
 learned_part : (kept : KindState) (hook addr : List ℕ) → is_followed (kind_of_kept kept) ≡ true → kept_after_learn kept hook addr ≡ kept
 learned_part (BridgeState s) hook addr e = absurd (true≢false (sym e))
-learned_part (One2manyState s) hook addr e = refl
-learned_part (HubState s) hook addr e = refl
-learned_part HoleState hook addr e = refl
-learned_part EchoState hook addr e = refl
-learned_part SplitState hook addr e = refl
-learned_part SocketState hook addr e = refl
-learned_part (TeeState s) hook addr e = refl
-learned_part (VlanState s) hook addr e = refl
-learned_part (PatchState s) hook addr e = refl
-learned_part (BpfState s) hook addr e = refl
-learned_part (EtherState s) hook addr e = refl
-learned_part (EtfState s) hook addr e = refl
-learned_part (MacsetState s) hook addr e = refl
+learned_part _ hook addr e = refl
 
 pub frame_stays : (row : NodeRecord) (door : Door) (link : Option LinkId) (packet : List ℕ) → IsStillNode row (record row { kept = kept_after (state_of row) (Frame door link packet) })
 frame_stays row door link packet =
@@ -214,10 +173,8 @@ leave_pending w at stamp Reader hook packet = by (nat_le (spool_with w packet) m
     by true = refl
 
 pub note_pending : (w : World) (at : NodeId) (stamp : Stamp) (x : Note) → (note w at stamp x).pending ≡ w.pending
-note_pending w at stamp (Tells told) = refl
-note_pending w at stamp Refuses = refl
 note_pending w at stamp (Exits exit hook packet) = leave_pending w at stamp exit hook packet
-note_pending w at stamp Links = refl
+note_pending w at stamp _ = refl
 
 -- the graph is as it was, and what is pending passes
 pub record Passes (nodes : List (Option NodeRecord)) (w : World) : Type 0 where
@@ -325,12 +282,7 @@ frame_passes : (body : Body) → is_frame body ≡ true → is_passing body ≡ 
 frame_passes (Frame door link packet) e = refl
 frame_passes (Tick seconds) e = refl
 frame_passes (Learn hook link addr) e = refl
-frame_passes (Msg msg) e = absurd (true≢false (sym e))
-frame_passes (Join2 hook link peer peer_hook) e = absurd (true≢false (sym e))
-frame_passes (Join3 hook link) e = absurd (true≢false (sym e))
-frame_passes (Undo hook link errno) e = absurd (true≢false (sym e))
-frame_passes (Leave hook link) e = absurd (true≢false (sym e))
-frame_passes (Rebind hook old new peer peer_hook) e = absurd (true≢false (sym e))
+frame_passes _ e = absurd (true≢false (sym e))
 
 pub only_frames : (w : World) → HasOnlyFrames w → OnlyPassing w.pending
 only_frames w F item h = frame_passes item.body (F item h)

@@ -10,7 +10,7 @@ use Rattle.ng_machine.specs.declared.body.Door.{Door}
 use Rattle.ng_machine.specs.declared.body.Door.TheVariants.{Wire, Hook as ByHook}
 use Rattle.ng_machine.specs.declared.hook.Hook.{Hook}
 use Rattle.ng_machine.specs.declared.plan.Plan.{Plan}
-use Rattle.ng_machine.specs.State.{State, KindState, HubState, HoleState, EchoState, SplitState, SocketState, TeeState, One2manyState, BridgeState, VlanState, PatchState, BpfState, EtherState, EtfState, MacsetState, kind_of_kept, way_of, way_of_kept}
+use Rattle.ng_machine.specs.State.{State, KindState, One2manyState, kind_of_kept, way_of, way_of_kept}
 use Rattle.ng_machine.specs.Case.{outcome_by_plan, outcome_of}
 use Rattle.ng_machine.specs.World.{NodeRecord, node_in, is_named, hook_of, kind_at, state_of, hook_names}
 use Rattle.ng_machine.specs.Effect.{is_hook_gone, door_name}
@@ -82,19 +82,7 @@ gone_alike a b f e = by f.door f.link
 
 has_way : (kept : KindState) (hooks : List (List ℕ)) → is_followed (kind_of_kept kept) ≡ true → is_some (way_of_kept kept hooks) ≡ true
 has_way (One2manyState s) hooks e = absurd (true≢false (sym e))
-has_way (HubState persistent) hooks e = refl
-has_way HoleState hooks e = refl
-has_way EchoState hooks e = refl
-has_way SplitState hooks e = refl
-has_way SocketState hooks e = refl
-has_way (TeeState rows) hooks e = refl
-has_way (BridgeState s) hooks e = refl
-has_way (VlanState s) hooks e = refl
-has_way (PatchState ops) hooks e = refl
-has_way (BpfState s) hooks e = refl
-has_way (EtherState s) hooks e = refl
-has_way (EtfState s) hooks e = refl
-has_way (MacsetState s) hooks e = refl
+has_way _ hooks e = refl
 
 passed_alike : (a b : State) (door : Door) (packet : List ℕ) (o : Option Plan) → is_some o ≡ true → outcome_by_plan a o door packet ≡ outcome_by_plan b o door packet
 passed_alike a b door packet None t = absurd (true≢false (sym t))

@@ -1,6 +1,6 @@
 -- ng_bpf(4): the program of the hook that a packet comes by decides which of two hooks it goes out of. A new hook has the
 -- program that answers 0, and no targets. That a target need not be there is this project's choice.
-use Rattle.std.specs.Prelude.{ℕ, zero, suc, ◌+◌, ◌-◌, ◌*◌, ◌/◌, Bool, true, not, ◌==◌, ◌&&◌, nat_le, if◌then◌else◌, List, [], ◌∷◌, ◌++◌, map, length, drop, is_some, is_none, Option, Some, None}
+use Rattle.std.specs.Prelude.{ℕ, zero, suc, ◌+◌, ◌-◌, ◌*◌, ◌/◌, Bool, true, not, ◌==◌, ◌&&◌, nat_le, if◌then◌else◌, List, [], ◌∷◌, ◌++◌, map, length, drop, is_some, Option, Some, None}
 use Rattle.std.specs.List.{filter, find, flat_map, list_any}
 use Rattle.std.specs.Str.{bytes_eq}
 use Rattle.byteorder.specs.Endian.{little_bytes}
@@ -18,7 +18,7 @@ use Rattle.ng_machine.specs.Errors.{einval, enoent}
 use Rattle.ng_base.specs.Name.{is_name}
 use Rattle.ng_machine.specs.Arguments.{number_at, text_at}
 use Rattle.ng_machine.specs.Counters.{Count, zeros, raise_at, row_bytes, counts_packet}
-use Rattle.ng_machine.specs.Outcome.{nothing, counts_only, Reply, refuses, invalid, sets, answers, with_length, unless, by_number}
+use Rattle.ng_machine.specs.Outcome.{nothing, counts_only, Reply, refuses, sets, answers, with_length, unless, by_number}
 
 -- a hook: its program and targets, and the counters recvFrames, recvOctets, recvMatchFrames, recvMatchOctets, xmitFrames
 -- and xmitOctets; all begin and end with it

@@ -1,7 +1,7 @@
 -- ng_bridge(4): a frame goes out of the link that its destination is behind, and out of all others where that isn't known. A
 -- frame changes nothing but counters, among them how often a host was seen; where its source is news, the bridge is to
 -- learn it by an item of its own. The order of the tests, mutes, ages and what a loop does are this project's choice.
-use Rattle.std.specs.Prelude.{ℕ, ◌+◌, ◌-◌, ◌^◌, min, Bool, true, false, not, ◌==◌, ◌&&◌, nat_lt, if◌then◌else◌, List, [], ◌∷◌, ◌++◌, map, length, take, slice_range, replicate, codes, is_none, unwrap_or, Option, Some, None}
+use Rattle.std.specs.Prelude.{ℕ, ◌+◌, ◌-◌, ◌^◌, min, Bool, true, false, not, ◌==◌, ◌&&◌, nat_lt, if◌then◌else◌, List, [], ◌∷◌, ◌++◌, map, length, take, replicate, codes, is_none, unwrap_or, Option, Some, None}
 use Rattle.std.specs.List.{filter, find, flat_map, list_any}
 use Rattle.std.specs.Str.{bytes_eq}
 use Rattle.byteorder.specs.Endian.{little_bytes, big_number}
@@ -12,7 +12,7 @@ use Rattle.ng_machine.specs.declared.outcome.Outcome.{Outcome}
 use Rattle.ng_machine.specs.declared.plan.BridgeConfig.{BridgeConfig}
 use Rattle.ng_machine.specs.declared.plan.BridgeLink.{BridgeLink}
 use Rattle.ng_machine.specs.declared.plan.BridgeHost.{BridgeHost}
-use Rattle.ng_machine.specs.Errors.{einval, enotconn}
+use Rattle.ng_machine.specs.Errors.{enotconn}
 use Rattle.ng_machine.specs.Names.{digits, number_behind}
 use Rattle.ng_machine.specs.Arguments.{number_at}
 use Rattle.ng_machine.specs.Counters.{Count, zeros, raise, raise_at, row_bytes, counts_packet}

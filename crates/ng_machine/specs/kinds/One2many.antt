@@ -2,7 +2,7 @@
 -- the transmit algorithm: to the links in turn (NG_ONE2MANY_XMIT_ROUNDROBIN), to all (NG_ONE2MANY_XMIT_ALL) or to the
 -- least (NG_ONE2MANY_XMIT_FAILOVER). A link is active where it is enabled and its hook is there. The cursor, and what
 -- becomes of a packet without an active link, are this project's choice.
-use Rattle.std.specs.Prelude.{ℕ, ◌+◌, ◌%◌, Bool, true, false, not, ◌==◌, ◌&&◌, ◌||◌, nat_lt, nat_le, if◌then◌else◌, List, [], ◌∷◌, ◌++◌, map, length, drop, slice_get, slice_index, replicate, codes, Option, Some, None}
+use Rattle.std.specs.Prelude.{ℕ, ◌+◌, ◌%◌, Bool, false, not, ◌==◌, ◌&&◌, nat_lt, nat_le, if◌then◌else◌, List, [], ◌∷◌, ◌++◌, map, length, drop, slice_get, slice_index, replicate, codes, Option, Some, None}
 use Rattle.std.specs.List.{filter, find}
 use Rattle.std.specs.Option.{option_or, option_to_list}
 use Rattle.std.specs.Str.{bytes_eq}

@@ -14,7 +14,7 @@ use Rattle.ng_machine.specs.declared.plan.PatchOp.{PatchOp}
 use Rattle.ng_machine.specs.Errors.{einval}
 use Rattle.ng_machine.specs.Names.{in_hook, out_hook}
 use Rattle.ng_machine.specs.Arguments.{number_at}
-use Rattle.ng_machine.specs.Outcome.{nothing, sends_by, Reply, invalid, sets, answers, with_length, unless, by_number}
+use Rattle.ng_machine.specs.Outcome.{nothing, sends_by, Reply, sets, answers, with_length, unless, by_number}
 
 -- Operations on the number x of a packet with the value v, both of w bits; the result is taken modulo 2^w
 

@@ -2,7 +2,7 @@
 -- filter goes out of the filter's hook without the tag, and every other packet out of nomatch. What comes by nomatch goes
 -- out of downstream; what comes by a filter's hook gets the filter's tag on the way. The errors, and the messages on the
 -- type of tags, are this project's choice.
-use Rattle.std.specs.Prelude.{ℕ, Bool, not, ◌==◌, ◌||◌, nat_lt, nat_le, if◌then◌else◌, List, [], ◌∷◌, ◌++◌, length, is_some, Option, Some, None}
+use Rattle.std.specs.Prelude.{ℕ, Bool, not, ◌==◌, ◌||◌, nat_lt, if◌then◌else◌, List, [], ◌∷◌, ◌++◌, length, is_some, Option, Some, None}
 use Rattle.std.specs.List.{filter, find, flat_map}
 use Rattle.std.specs.Str.{bytes_eq}
 use Rattle.byteorder.specs.Endian.{little_bytes}
