@@ -1,11 +1,12 @@
 -- The run of a script and captures that were read.
-use Rattle.std.specs.Prelude.{◌≡◌, ℕ, ◌+◌, List, map, get_or}
+use Rattle.std.specs.Prelude.{◌≡◌, ℕ, ◌+◌, ◌≤◌, true, List, map, get_or}
 use Rattle.ng_base.specs.declared.event.Event.{Event}
 use Rattle.ng_base.specs.declared.kind.Kind.{Kind}
 use Rattle.ng_machine.specs.declared.input.Input.{Input}
 use Rattle.ng_machine.specs.Laws.{Setting, start, IsJournal, world_after}
 use Rattle.ng_machine.specs.Orderly.{IsWhole}
 use Rattle.ng_machine.specs.Plain.{IsPlain}
+use Rattle.ng_machine.specs.SetUp.{has_waited}
 use Rattle.ng_machine.specs.World.{World, Port, blank_port}
 use Rattle.ngctl_script.specs.Script.{commands_of}
 use Rattle.ngctl_script.specs.feed.Inputs.{inputs_of}
@@ -29,11 +30,12 @@ setting_of kinds words inputs = record {
   seats = words.workers + 1;
 }
 
--- orderly and whole, and the plain journal where there is no worker
+-- Orderly and whole. Without workers it is the plain journal; with them the first packet or tick waits for the set-up.
 pub record IsRun (s : Setting) (workers : ℕ) (journal : List Event) : Type 0 where
   pub orderly : IsJournal s journal
   pub whole : IsWhole (start s) s.given journal
   pub plain : workers ≡ 0 → IsPlain (start s) s.given s.budget journal
+  pub waits : 1 ≤ workers → has_waited s journal ≡ true
 
 -- the same of what was read
 abbrev pub setting_in : List Kind → Words → Found → Setting

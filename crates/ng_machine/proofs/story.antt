@@ -1,4 +1,5 @@
 pub mod MoreInputs
+pub mod SetUps
 pub mod OfDesks
 pub mod AtWork
 pub mod SoundStories

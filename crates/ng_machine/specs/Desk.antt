@@ -18,6 +18,7 @@ use Rattle.ng_machine.specs.Effect.{MessageClass, OfKind, class_of, is_hook_gone
 use Rattle.ng_machine.specs.Feed.{RunInput}
 use Rattle.ng_machine.specs.Run.{RunState, Taken, is_of, taken_after, after, beginning}
 use Rattle.ng_machine.specs.Laws.{Setting, start}
+use Rattle.ng_machine.specs.SetUp.{has_waited}
 
 -- What a seat works on
 
@@ -111,14 +112,15 @@ job_in s journal seat = job_from s.given (beginning (start s)) seat Idle journal
 
 -- A desk
 
--- the desk of the seat 0 beside what each desk has: what the run was made of, what was fed, and how many inputs were
--- said to be unfed where it was closed
+-- the desk of the seat 0 beside what each desk has: what the run was made of, what was fed, whether the first packet or
+-- tick waited for the set-up, and how many inputs were said to be unfed where it was closed
 pub record FirstDesk : Type 0 where
   pub own : List ℕ
   pub ports : List (List ℕ)
   pub stock : List Kind
   pub budget : ℕ
   pub inputs : List Input
+  pub waited : Bool
   pub closed : Option ℕ
 
 pub record SeatDesk : Type 0 where
@@ -128,9 +130,17 @@ pub record SeatDesk : Type 0 where
   pub job : Job
   pub first : Option FirstDesk
 
-abbrev pub first_desk : Setting → Option ℕ → ℕ → Option FirstDesk
-first_desk s closed zero = Some (record { own = s.own; ports = s.ports; stock = s.stock; budget = s.budget; inputs = s.given.inputs; closed = closed })
-first_desk s closed (suc n) = None
+abbrev pub first_desk : Setting → List Event → Option ℕ → ℕ → Option FirstDesk
+first_desk s journal closed zero = Some (record {
+  own = s.own;
+  ports = s.ports;
+  stock = s.stock;
+  budget = s.budget;
+  inputs = s.given.inputs;
+  waited = has_waited s journal;
+  closed = closed;
+})
+first_desk s journal closed (suc n) = None
 
 -- the desk of a seat after a journal over the inputs fed, by who gave up and how it was closed
 abbrev pub desk_of : Setting → List Event → List Bool → Option ℕ → ℕ → SeatDesk
@@ -139,5 +149,5 @@ desk_of s journal gave_up closed seat = record {
   own = own_events journal seat;
   gave_up = slice_index_or gave_up seat false;
   job = job_in s journal seat;
-  first = first_desk s closed seat;
+  first = first_desk s journal closed seat;
 }

@@ -35,6 +35,7 @@ pub mod Lawful
 pub mod RunLaws
 pub mod KnownRun
 pub mod LowRun
+pub mod SetUp
 pub mod Desk
 pub mod KindObligations
 pub mod Totals

@@ -46,4 +46,4 @@ DeskExample =
     × ((desk_of desk_setting beside_front (false ∷ true ∷ []) None 1).first ≡ None)
     × ((desk_of desk_setting beside_front (false ∷ true ∷ []) None 1).gave_up ≡ true)
     × ((desk_of desk_setting beside_front [] (Some 0) 0).first
-    ≡ Some (record { own = codes "ngctl"; ports = ports; stock = full_stock; budget = 1000000; inputs = beside_inputs; closed = Some 0 }))
+    ≡ Some (record { own = codes "ngctl"; ports = ports; stock = full_stock; budget = 1000000; inputs = beside_inputs; waited = true; closed = Some 0 }))

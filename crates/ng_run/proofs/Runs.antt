@@ -1,5 +1,5 @@
 -- What came of a core that was just made by the words is the run that they ask for.
-use Rattle.std.proofs.Common.{◌≡◌, ◌∙◌, ℕ, ◌+◌, List, length, false, sym, ap, subst}
+use Rattle.std.proofs.Common.{◌≡◌, ◌∙◌, ℕ, ◌+◌, ◌≤◌, List, length, false, true, sym, ap, subst}
 use Rattle.std.proofs.lemmas.List.{length-map}
 use Rattle.ng_base.specs.declared.event.Event.{Event}
 use Rattle.ng_base.specs.declared.kind.Kind.{Kind}
@@ -8,6 +8,7 @@ use Rattle.ng_machine.specs.Laws.{IsJournal, run_state_after, start, world_after
 use Rattle.ng_machine.specs.Orderly.{IsWhole}
 use Rattle.ng_machine.specs.Plain.{IsPlain}
 use Rattle.ng_machine.specs.Run.{RunState}
+use Rattle.ng_machine.specs.SetUp.{has_waited}
 use Rattle.ng_call.specs.Run as run
 use Rattle.ng_call.specs.Run.{IsRun}
 use Rattle.ng_core.specs.CoreStory.{CoreStory, setting_of, story}
@@ -28,10 +29,11 @@ IsWholeRun kinds words seats inputs new =
 module _ (kinds : List Kind) (words : Words) (seats : ℕ) (inputs : List Input) (new : CoreStory) (s : seats ≡ words.workers + 1) where
   pub is_run : IsWholeRun kinds words seats inputs new
       → (words.workers ≡ 0 → IsPlain (start (setting_of (begun_by kinds words seats))) (with_more (setting_of (begun_by kinds words seats)) inputs).given words.budget new.journal)
+      → (1 ≤ words.workers → has_waited (with_more (setting_of (begun_by kinds words seats)) inputs) new.journal ≡ true)
       → IsRun (run.setting_of kinds words inputs) words.workers new.journal
-  is_run W plain =
+  is_run W plain waits =
       subst (λ (n : ℕ). IsRun (with_more (setting_of (begun_by kinds words n)) inputs) words.workers new.journal) s
-      (record { orderly = W.0; whole = W.1; plain = plain })
+      (record { orderly = W.0; whole = W.1; plain = plain; waits = waits })
 
   -- where memory ran out, it is orderly as far as it goes
   pub is_part : (journal : List Event) → journal ≡ new.journal → IsJournal (with_more (setting_of (begun_by kinds words seats)) inputs) new.journal → IsJournal (run.setting_of kinds words inputs) journal

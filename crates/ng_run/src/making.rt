@@ -57,6 +57,7 @@ fn run_plainly<B: Node>(
     requires stocked { IsStocked B.state stock.items }
     requires may { MayRun (setting_of (map (λ b. kind_of (B.state b)) stock.items) words.now inputs.items) }
     requires seats { seats ≡ words.now.workers + 1 }
+    requires none { words.now.workers ≡ 0 }
     ensures run { IfOk result (λ core. IsRun (setting_of (map (λ b. kind_of (B.state b)) stock.items) words.now inputs.items) words.now.workers core.journal) }
     ensures ports { IfOk result (λ core. length (world_of (story core)).ports ≡ length (ports_from words.now.source)) }
     ensures world { IfOk result (λ core. world_of (story core) ≡ world_after (setting_of (map (λ b. kind_of (B.state b)) stock.items) words.now inputs.items) core.journal) }

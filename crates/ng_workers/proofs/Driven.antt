@@ -1,7 +1,8 @@
 -- The desk of the seat 0, by what the core's calls say of it.
-use Rattle.std.proofs.Common.{◌≡◌, ◌+◌, ◌<◌, ℕ, zero, suc, List, [], ◌∷◌, ◌++◌, length, Bool, true, false, ◌&&◌, ◌||◌, nat_lt, is_some, inl, inr, refl, sym, ap, ◌∙◌, subst, true≢false, length-append, arith}
+use Rattle.std.proofs.Common.{◌≡◌, ◌⊎◌, ◌+◌, ◌<◌, ◌==◌, ℕ, zero, suc, List, [], ◌∷◌, ◌++◌, length, Bool, true, false, not, ◌&&◌, ◌||◌, nat_lt, is_some, inl, inr, refl, sym, ap, ◌∙◌, subst, true≢false, length-append, arith}
 use Rattle.std.proofs.lemmas.List.{append-nil, append_assoc}
-use Rattle.std.proofs.lemmas.Bool.{ltb-false, lt-ltb}
+use Rattle.std.proofs.lemmas.Bool.{ltb-false, lt-ltb, ne_eqb}
+use Rattle.std.specs.List.{list_any}
 use Rattle.std.specs.declared.option.Option.{Option}
 use Rattle.std.specs.declared.option.Option.TheVariants.{None, Some}
 use Rattle.ng_base.specs.declared.event.Event.{Event}
@@ -11,19 +12,21 @@ use Rattle.ng_machine.specs.declared.input.Input.{Input}
 use Rattle.ng_machine.specs.Desk.{FirstDesk, SeatDesk}
 use Rattle.ng_machine.specs.State.{State}
 use Rattle.ng_core_state.specs.declared.handed.Work.{Work}
-use Rattle.ng_machine.specs.Words.{first_refusal, times}
+use Rattle.ng_machine.specs.Words.{first_refusal, is_empty, times}
 use Rattle.ng_workers.proofs.pool.Steps.{fed_fits}
-use Rattle.ng_workers.specs.pool.Feeding.{IsFed, IsUnfed}
+use Rattle.ng_workers.specs.pool.Feeding.{IsFed, IsUnfed, begins_with_traffic}
 use Rattle.ng_core.specs.CoreStory.{CoreStory, story}
 use Rattle.ng_machine.proofs.story.OfDesks.{feed_tells}
+use Rattle.ng_machine.proofs.story.SetUps.{fed_waits}
 use Rattle.ng_machine.proofs.story.SoundStories.{so_far}
+use Rattle.ng_machine.specs.SetUp.{has_waited, is_traffic}
 use Rattle.ng_machine.specs.story.Closing.{close_refusal, is_spent, refusal_below, stops}
 use Rattle.ng_machine.specs.declared.story.unclosed.Unclosed.{Unclosed}
 use Rattle.ng_machine.specs.declared.story.unclosed.Unclosed.TheVariants.{Pending, Unfed}
 use Rattle.ng_machine.specs.story.DeskLaws.{closed_desk, fed_desk, stop_events}
 use Rattle.ng_machine.specs.story.Desks.{story_desk}
 use Rattle.ng_machine.specs.story.SoundStory.{IsSoundStory}
-use Rattle.ng_machine.specs.story.Story.{AreFitFor, Story, world_of}
+use Rattle.ng_machine.specs.story.Story.{AreFitFor, Story, with_input, world_of}
 use Rattle.ng_workers.specs.Desks.{Gains, Grew, MayBack, core_desk, is_feed}
 use Rattle.ng_turn.specs.declared.pass.Pass.{Pass}
 use Rattle.ng_workers.specs.declared.next.Next.{Next}
@@ -32,8 +35,16 @@ use Rattle.ng_workers.specs.declared.step.Step.{Step}
 use Rattle.ng_workers.specs.declared.step.Step.TheVariants.{Goes, Ends}
 use Rattle.ng_workers.specs.Hands.{Drove, Takes}
 use Rattle.ng_workers.specs.Passes.{DroveStep, IfEnds, desk, pass_of}
-use Rattle.ng_workers.specs.Driving.{Closes, Drives, DroveOn, GivesUp, IsAtEnd, IsOpenFor, after_feeding, is_open_for}
+use Rattle.ng_workers.specs.Driving.{Closes, Drives, DroveOn, GivesUp, IsAtEnd, IsOpenFor, MayFeed, after_feeding, has_begun, is_open_for}
+use Rattle.ng_workers.specs.SetUp.{is_held_back, stage_after}
+use Rattle.ng_workers.specs.declared.feeder.Feeder.{Feeder}
+use Rattle.ng_workers.specs.declared.feeder.Stage.{Stage}
+use Rattle.ng_workers.specs.declared.feeder.Stage.TheVariants.{SetUp, Traffic}
 use Rattle.ng_workers.proofs.Growing.{gains_none, gains_then}
+
+or_true : (b : Bool) → (b || true) ≡ true
+or_true true = refl
+or_true false = refl
 
 -- WHAT IS SHOWN
 
@@ -88,27 +99,64 @@ open_grew a b inputs fits G =
     subst (λ (o : Option FirstDesk). is_open_for inputs b.seats o) (sym G.first)
     (subst (λ (n : ℕ). is_open_for inputs n a.first) (sym G.gains.seats) fits)
 
+pub may_grew : (a b : SeatDesk) (feeder : Feeder) → MayFeed feeder a → Grew a b → MayFeed feeder b
+may_grew a b feeder fits G = (open_grew a b feeder.unfed fits.0 G, subst (has_begun feeder.stage) (sym G.first) fits.1)
+
 -- THE NEXT INPUT
 
-one_fed : (s : Story) (d : SeatDesk) (input : Input) (inputs rest : List Input) → s.closed ≡ None → d ≡ fed_desk s input → rest ≡ inputs
+-- where the input is fed the first packet or tick has waited, if it had before
+abbrev Waited : Story → Input → Type 0
+Waited s input = has_waited (with_input s input).setting (s.journal ++ Feed ∷ []) ≡ has_waited s.setting s.journal
+
+-- an input that isn't held back
+none_left : {A : Type 0} (xs : List A) → not (length xs == 0) ≡ false → is_empty xs ≡ true
+none_left [] is = refl
+none_left (x ∷ xs) is = absurd (true≢false (sym (ap not (ne_eqb (length (x ∷ xs)) 0 (λ e. omega arith))) ∙ is))
+
+goes_by : (stage : Stage) (s : Story) (input : Input) (inputs : List Input) → has_begun stage (story_desk s 0).first → is_held_back stage s (input ∷ inputs) ≡ false
+    → is_traffic input ≡ true → (list_any is_traffic s.setting.given.inputs ≡ true) ⊎ (is_empty (world_of s).pending ≡ true)
+goes_by SetUp s input inputs began free traffic =
+    inr (none_left (world_of s).pending (ap (λ (b : Bool). b && not (length (world_of s).pending == 0)) (sym traffic) ∙ free))
+goes_by Traffic s input inputs began free traffic = inl began
+
+waited : (stage : Stage) (s : Story) (input : Input) (inputs : List Input) → IsSoundStory s → s.closed ≡ None → has_begun stage (story_desk s 0).first
+    → is_held_back stage s (input ∷ inputs) ≡ false → Waited s input
+waited stage s input inputs sound unclosed began free =
+    fed_waits s.setting input s.journal sound.fed (goes_by stage s input inputs began free) (so_far s sound unclosed)
+
+one_fed : (s : Story) (d : SeatDesk) (input : Input) (inputs rest : List Input) → s.closed ≡ None → Waited s input → d ≡ fed_desk s input → rest ≡ inputs
     → Drives (story_desk s 0) d (input ∷ inputs) rest None
-one_fed s d input inputs rest unclosed is same = subst (λ (x : SeatDesk). Drives (story_desk s 0) x (input ∷ inputs) rest None) (sym is) (record {
+one_fed s d input inputs rest unclosed waited is same = subst (λ (x : SeatDesk). Drives (story_desk s 0) x (input ∷ inputs) rest None) (sym is) (record {
   more = Feed ∷ [];
   gains = record { seats = refl; own = refl; backs = no_back (story_desk s 0).gave_up; marks = λ marked. marked };
   fed = input ∷ [];
   parts = ap (λ (l : List Input). input ∷ l) (sym same);
   feeds = refl;
-  first = ap (λ (c : Option ℕ). Some (let f : FirstDesk = record { own = s.setting.own; ports = s.setting.ports; stock = s.setting.stock; budget = s.setting.budget; inputs = s.setting.given.inputs ++ input ∷ []; closed = c } in f)) unclosed;
+  first =
+      ap (λ (c : Option ℕ). shown (has_waited (with_input s input).setting (s.journal ++ Feed ∷ [])) c) unclosed
+      ∙ ap (λ (b : Bool). shown b None) waited;
 })
   where
+    shown : Bool → Option ℕ → Option FirstDesk
+    shown b c = Some (record {
+      own = s.setting.own;
+      ports = s.setting.ports;
+      stock = s.setting.stock;
+      budget = s.setting.budget;
+      inputs = s.setting.given.inputs ++ input ∷ [];
+      waited = b;
+      closed = c;
+    })
+
     no_back : (b : Bool) → MayBack b (Feed ∷ [])
     no_back true = tt
     no_back false = (refl, tt)
 
-pub fed_drives : (s t : Story) (left rest : List Input) → IsSoundStory s → s.closed ≡ None → IsFed s left t rest → Drives (story_desk s 0) (story_desk t 0) left rest None
-fed_drives s t [] rest sound unclosed fed = absurd fed
-fed_drives s t (input ∷ inputs) rest sound unclosed fed =
-    one_fed s (story_desk t 0) input inputs rest unclosed (ap (λ (x : Story). story_desk x 0) fed.0 ∙ (feed_tells s input (so_far s sound unclosed)).1) fed.1
+pub fed_drives : (stage : Stage) (s t : Story) (left rest : List Input) → IsSoundStory s → s.closed ≡ None → has_begun stage (story_desk s 0).first
+    → is_held_back stage s left ≡ false → IsFed s left t rest → Drives (story_desk s 0) (story_desk t 0) left rest None
+fed_drives stage s t [] rest sound unclosed began free fed = absurd fed
+fed_drives stage s t (input ∷ inputs) rest sound unclosed began free fed =
+    one_fed s (story_desk t 0) input inputs rest unclosed (waited stage s input inputs sound unclosed began free) (ap (λ (x : Story). story_desk x 0) fed.0 ∙ (feed_tells s input (so_far s sound unclosed)).1) fed.1
 
 fed_closed : (s t : Story) (left rest : List Input) → s.closed ≡ None → IsFed s left t rest → t.closed ≡ None
 fed_closed s t [] rest unclosed fed = absurd fed
@@ -118,8 +166,36 @@ pub fed_shortens : (s t : Story) (left rest : List Input) → IsFed s left t res
 fed_shortens s t [] rest fed = absurd fed
 fed_shortens s t (input ∷ inputs) rest fed = let same = ap (λ (l : List Input). length l) fed.1 in omega arith
 
+any_push : (inputs : List Input) (input : Input) → is_traffic input ≡ true → list_any is_traffic (inputs ++ input ∷ []) ≡ true
+any_push [] input is = ap (λ (b : Bool). b || false) is
+any_push (x ∷ xs) input is = ap (λ (b : Bool). is_traffic x || b) (any_push xs input is) ∙ or_true (is_traffic x)
+
+or_front : (a b c : Bool) → (b ≡ true → c ≡ true) → (a || b) ≡ true → (a || c) ≡ true
+or_front true b c then is = refl
+or_front false b c then is = then is
+
+any_front : (inputs more : List Input) → list_any is_traffic inputs ≡ true → list_any is_traffic (inputs ++ more) ≡ true
+any_front [] more is = absurd (true≢false (sym is))
+any_front (x ∷ xs) more is = or_front (is_traffic x) (list_any is_traffic xs) (list_any is_traffic (xs ++ more)) (any_front xs more) is
+
+-- with the first packet or tick the traffic has begun
+one_begun : (stage : Stage) (s : Story) (input : Input) (traffic : Bool) → is_traffic input ≡ traffic → has_begun stage (story_desk s 0).first
+    → has_begun (stage_after stage true traffic) (fed_desk s input).first
+one_begun stage s input true is began = any_push s.setting.given.inputs input is
+one_begun SetUp s input false is began = tt
+one_begun Traffic s input false is began = any_front s.setting.given.inputs (input ∷ []) began
+
+fed_begun : (stage : Stage) (s t : Story) (left rest : List Input) → has_begun stage (story_desk s 0).first → IsFed s left t rest
+    → has_begun (stage_after stage true (begins_with_traffic left)) (story_desk t 0).first
+fed_begun stage s t [] rest began fed = absurd fed
+fed_begun stage s t (input ∷ inputs) rest began fed =
+    subst (λ (x : Story). has_begun (stage_after stage true (is_traffic input)) (story_desk x 0).first) (sym fed.0) (one_begun stage s input (is_traffic input) refl began)
+
 -- what was tried: the next input was fed, or nothing changed
-module _ (c d : CoreStory) (left rest : List Input) (fits : IsOpenFor left (core_desk c 0)) where
+module _ (c d : CoreStory) (feeder : Feeder) (rest : List Input) (fits : MayFeed feeder (core_desk c 0)) (free : is_held_back feeder.stage (story c) feeder.unfed ≡ false) where
+  abbrev left : List Input
+  left = feeder.unfed
+
   abbrev Does : Bool → Type 0
   Does fed = fed ≡ true → IsFed (story c) left (story d) rest × (IsUnfed (story c) left → ⊥)
 
@@ -127,18 +203,28 @@ module _ (c d : CoreStory) (left rest : List Input) (fits : IsOpenFor left (core
   Skips fed = fed ≡ false → (d ≡ c) × (rest ≡ left) × IsUnfed (story c) left
 
   pub tried_drives : IsSoundStory (story c) → (fed : Bool) → Does fed → Skips fed → Drives (core_desk c 0) (core_desk d 0) left rest None
-  tried_drives sound true does skips = fed_drives (story c) (story d) left rest sound fits.0 (does refl).0
+  tried_drives sound true does skips = fed_drives feeder.stage (story c) (story d) left rest sound fits.0.0 fits.1 free (does refl).0
   tried_drives sound false does skips =
       let k = skips refl in
       subst (λ (x : CoreStory). Drives (core_desk c 0) (core_desk x 0) left rest None) (sym k.0)
-      (subst (λ (l : List Input). Drives (core_desk c 0) (core_desk c 0) left l None) (sym k.1) (drives_none (core_desk c 0) left fits))
+      (subst (λ (l : List Input). Drives (core_desk c 0) (core_desk c 0) left l None) (sym k.1) (drives_none (core_desk c 0) left fits.0))
 
-  pub tried_open : (fed : Bool) → Does fed → Skips fed → IsOpenFor rest (core_desk d 0)
+  tried_open : (fed : Bool) → Does fed → Skips fed → IsOpenFor rest (core_desk d 0)
   tried_open true does skips =
-      let fed = (does refl).0 in (fed_closed (story c) (story d) left rest fits.0 fed, fed_fits (story c) (story d) left rest fed fits.1)
+      let fed = (does refl).0 in (fed_closed (story c) (story d) left rest fits.0.0 fed, fed_fits (story c) (story d) left rest fed fits.0.1)
   tried_open false does skips =
       let k = skips refl in
-      subst (λ (x : CoreStory). IsOpenFor rest (core_desk x 0)) (sym k.0) (subst (λ (l : List Input). IsOpenFor l (core_desk c 0)) (sym k.1) fits)
+      subst (λ (x : CoreStory). IsOpenFor rest (core_desk x 0)) (sym k.0) (subst (λ (l : List Input). IsOpenFor l (core_desk c 0)) (sym k.1) fits.0)
+
+  tried_begun : (stage : Stage) (fed : Bool) → Does fed → Skips fed → stage ≡ stage_after feeder.stage fed (begins_with_traffic left) → has_begun stage (core_desk d 0).first
+  tried_begun stage true does skips is =
+      subst (λ (x : Stage). has_begun x (core_desk d 0).first) (sym is) (fed_begun feeder.stage (story c) (story d) left rest fits.1 (does refl).0)
+  tried_begun stage false does skips is =
+      subst (λ (x : Stage). has_begun x (core_desk d 0).first) (sym is) (subst (λ (x : CoreStory). has_begun feeder.stage (core_desk x 0).first) (sym (skips refl).0) fits.1)
+
+  pub tried_fits : (stage : Stage) (fed : Bool) → Does fed → Skips fed → stage ≡ stage_after feeder.stage fed (begins_with_traffic left)
+      → IsOpenFor rest (core_desk d 0) × has_begun stage (core_desk d 0).first
+  tried_fits stage fed does skips is = (tried_open fed does skips, tried_begun stage fed does skips is)
 
   pub tried_all : (fed : Bool) → Skips fed → fed ≡ false → IsUnfed (story d) rest
   tried_all fed skips is =
@@ -156,10 +242,6 @@ spent_if : (b : Bool) (pending n : ℕ) → 0 < n → refusal_below b pending n 
 spent_if true pending n some none = refl
 spent_if false pending n some none =
     let le = ltb-false 0 n (second_first (nat_lt 0 pending) (nat_lt 0 n) (Pending pending) (Unfed n) none) in absurd (omega arith)
-
-or_true : (b : Bool) → (b || true) ≡ true
-or_true true = refl
-or_true false = refl
 
 -- a core with unfed inputs is closed by a Stop
 stops_at : (s : Story) (n : ℕ) → 0 < n → close_refusal s n ≡ None → stops s n ≡ true
@@ -191,7 +273,7 @@ closes_at s d left none is = subst (λ (x : SeatDesk). Closes (story_desk s 0) x
     fed = [];
     parts = refl;
     feeds = stop_feeds (stops s (length left));
-    first = ap (λ (l : List Input). Some (let f : FirstDesk = record { own = s.setting.own; ports = s.setting.ports; stock = s.setting.stock; budget = s.setting.budget; inputs = l; closed = Some (length left) } in f)) (sym (append-nil s.setting.given.inputs));
+    first = ap (λ (l : List Input). Some (let f : FirstDesk = record { own = s.setting.own; ports = s.setting.ports; stock = s.setting.stock; budget = s.setting.budget; inputs = l; waited = has_waited s.setting s.journal; closed = Some (length left) } in f)) (sym (append-nil s.setting.given.inputs));
   };
   end = ends_well s left none;
 })
@@ -208,9 +290,9 @@ pub drove_after : (a b c : SeatDesk) (inputs more : List Input) → Drives a b i
 drove_after a b c inputs more D (inl C) = inl (closes_after a b c inputs more D C)
 drove_after a b c inputs more D (inr G) = inr (gives_up_after a b c inputs more D G)
 
-pub drove_then : {W : Type 0} (next : Next W) (a b c : SeatDesk) (inputs more rest : List Input) → Drives a b inputs more None → Drove next b c more rest → Drove next a c inputs rest
-drove_then (next.Taken work) a b c inputs more rest D then = (drives_then a b c inputs more rest None D then.0, then.1)
-drove_then next.Nothing a b c inputs more rest D then = (drives_then a b c inputs more rest None D then.0, then.1)
+pub drove_then : {W : Type 0} (next : Next W) (a b c : SeatDesk) (inputs more : List Input) (rest : Feeder) → Drives a b inputs more None → Drove next b c more rest → Drove next a c inputs rest
+drove_then (next.Taken work) a b c inputs more rest D then = (drives_then a b c inputs more rest.unfed None D then.0, then.1)
+drove_then next.Nothing a b c inputs more rest D then = (drives_then a b c inputs more rest.unfed None D then.0, then.1)
 drove_then next.End a b c inputs more rest D then = drove_after a b c inputs more D then
 
 -- the seat gives up after what it fed
@@ -219,13 +301,16 @@ quits a b c inputs left D G gave_up =
     inr (record { left = left; drives = drives_then a b c inputs left left None D (drives_on b c left (still_unclosed a b inputs left D) G); gave_up = gave_up })
 
 -- a seat that gave up is over
-pub drove_quits : {B : Type 0} (state : B → State) (next : Next (Work B)) (a c : SeatDesk) (inputs rest : List Input) → Takes state next c → c.gave_up ≡ true → DroveOn a c inputs → Drove next a c inputs rest
+pub drove_quits : {B : Type 0} (state : B → State) (next : Next (Work B)) (a c : SeatDesk) (inputs : List Input) (rest : Feeder) → Takes state next c → c.gave_up ≡ true → DroveOn a c inputs → Drove next a c inputs rest
 drove_quits state (next.Taken work) a c inputs rest takes gave_up drove = absurd (true≢false (sym gave_up ∙ takes.0))
 drove_quits state next.Nothing a c inputs rest takes gave_up drove = absurd (true≢false (sym gave_up ∙ takes.0))
 drove_quits state next.End a c inputs rest takes gave_up drove = drove
 
 -- the work on what was taken comes after it
-pub drove_step : {C D : Type 0} (step : Step (Pass C SeatDesk) D) (a b : SeatDesk) (inputs left : List Input) → Drives a b inputs left None → IsOpenFor left b → Grew b (desk (pass_of step))
+pub drove_step : {C D : Type 0} (step : Step (Pass C SeatDesk) D) (a b : SeatDesk) (inputs : List Input) (left : Feeder) → Drives a b inputs left.unfed None → MayFeed left b → Grew b (desk (pass_of step))
     → IfEnds step (λ last. (desk last).gave_up ≡ true) → DroveStep a inputs left step
-drove_step (Goes pass done) a b inputs left D fits G gave_up = (drives_then a b (desk pass) inputs left left None D (drives_grew b (desk pass) left fits G), open_grew b (desk pass) left fits G)
-drove_step (Ends pass) a b inputs left D fits G gave_up = quits a b (desk pass) inputs left D G gave_up
+drove_step (Goes pass done) a b inputs left D fits G gave_up = (
+  drives_then a b (desk pass) inputs left.unfed left.unfed None D (drives_grew b (desk pass) left.unfed fits.0 G),
+  may_grew b (desk pass) left fits G,
+)
+drove_step (Ends pass) a b inputs left D fits G gave_up = quits a b (desk pass) inputs left.unfed D G gave_up

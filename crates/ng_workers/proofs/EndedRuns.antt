@@ -10,6 +10,7 @@ use Rattle.ng_base.specs.declared.event.Event.{Event}
 use Rattle.ng_machine.proofs.Counted.{times-append}
 use Rattle.ng_machine.specs.declared.input.Input.{Input}
 use Rattle.ng_machine.specs.Desk.{FirstDesk, SeatDesk, own_events}
+use Rattle.ng_machine.specs.SetUp.{has_waited}
 use Rattle.ng_machine.specs.Words.{times}
 use Rattle.ng_table.specs.reading.Reading.{given}
 use Rattle.ng_core.specs.CoreStory.{CoreStory, setting_of, story}
@@ -39,7 +40,7 @@ first_in other None = other
 first_in other (Some first) = first
 
 abbrev shown_by : CoreStory → FirstDesk
-shown_by c = record { own = c.own; ports = c.ports; stock = c.stock; budget = c.budget; inputs = c.inputs; closed = c.closed }
+shown_by c = record { own = c.own; ports = c.ports; stock = c.stock; budget = c.budget; inputs = c.inputs; waited = has_waited (setting_of c) c.journal; closed = c.closed }
 
 -- what the first desk shows is what the core was made of and fed
 same_setting : (old new : CoreStory) (fed : List Input) (first : FirstDesk) → shown_by new ≡ first
@@ -69,14 +70,17 @@ kept_own old new seat d more is G = record { more = more; own = ap (λ (x : Seat
 
 -- the part of the seat 0, by the desk of the core at the end
 module _ (old new : CoreStory) (d : SeatDesk) (is : core_desk new 0 ≡ d) (inputs left : List Input) (closed : Option ℕ) (D : Drives (core_desk old 0) d inputs left closed) where
-  first : shown_by new ≡ record { own = old.own; ports = old.ports; stock = old.stock; budget = old.budget; inputs = old.inputs ++ D.fed; closed = closed }
-  first = ap (first_in (record { own = []; ports = []; stock = []; budget = 0; inputs = []; closed = None })) (ap (λ (x : SeatDesk). x.first) is ∙ D.first)
+  first : shown_by new ≡ record { own = old.own; ports = old.ports; stock = old.stock; budget = old.budget; inputs = old.inputs ++ D.fed; waited = has_waited (setting_of old) old.journal; closed = closed }
+  first = ap (first_in (record { own = []; ports = []; stock = []; budget = 0; inputs = []; waited = true; closed = None })) (ap (λ (x : SeatDesk). x.first) is ∙ D.first)
 
   setting_driven : setting_of new ≡ with_more (setting_of old) D.fed
   setting_driven = same_setting old new D.fed _ first refl refl refl refl refl (ap (λ (x : SeatDesk). x.seats) is ∙ D.gains.seats)
 
   closed_driven : new.closed ≡ closed
   closed_driven = ap (λ (f : FirstDesk). f.closed) first
+
+  waited_driven : has_waited (setting_of new) new.journal ≡ has_waited (setting_of old) old.journal
+  waited_driven = ap (λ (f : FirstDesk). f.waited) first
 
   feeds_driven : times is_feed new.journal ≡ times is_feed old.journal + length D.fed
   feeds_driven =
@@ -119,6 +123,7 @@ module _ (old new : CoreStory) (inputs : List Input) (all : AllDid old new input
       feeds = feeds_driven old new zeroth is inputs C.left (Some (length C.left)) C.drives;
       own = own_by;
       stays = stays;
+      waited = waited_driven old new zeroth is inputs C.left (Some (length C.left)) C.drives;
     }
 
   module _ (left : List Input) (closed : Option ℕ) (D : Drives (core_desk old 0) zeroth inputs left closed) (may : MayHaveLeft closed left) where

@@ -1,5 +1,5 @@
 -- A run by seats of threads, from the beginning of a core on, is orderly over all inputs, and whole.
-use Rattle.std.proofs.Common.{◌≡◌, ◌+◌, ◌<◌, ◌≤◌, ℕ, zero, suc, List, [], ◌∷◌, ◌++◌, length, Bool, true, false, is_some, slice_get, refl, sym, ap, ◌∙◌, subst, true≢false, length-append, arith}
+use Rattle.std.proofs.Common.{◌≡◌, ◌+◌, ◌<◌, ◌≤◌, ℕ, zero, suc, List, [], ◌∷◌, ◌++◌, length, Bool, true, false, not, ◌&&◌, ◌||◌, is_some, slice_get, refl, sym, ap, ◌∙◌, subst, true≢false, length-append, arith}
 use Rattle.std.proofs.lemmas.List.{append-nil, append_assoc}
 use Rattle.std.specs.declared.option.Option.{Option}
 use Rattle.std.specs.declared.option.Option.TheVariants.{None, Some}
@@ -13,7 +13,9 @@ use Rattle.ng_machine.specs.Feed.{RunInput, feed_next}
 use Rattle.ng_machine.specs.Laws.{IsJournal, Setting, run_state_after, start}
 use Rattle.ng_machine.specs.Orderly.{IsQuiet, IsWhole, MayFeedNext, OrderlyFrom}
 use Rattle.ng_machine.specs.Run.{RunState, after, after_all, beginning}
-use Rattle.ng_machine.specs.Words.{times}
+use Rattle.ng_machine.specs.Refusal.{is_command}
+use Rattle.ng_machine.specs.SetUp.{all_wait, has_waited, is_first_traffic, waits}
+use Rattle.ng_machine.specs.Words.{is_empty, times}
 use Rattle.ng_machine.specs.World.{World}
 use Rattle.ng_machine.specs.story.SoundStory.{IsSoundStory}
 use Rattle.ng_machine.specs.story.Story.{Story, begun, follow_if, run_state_of, with_more}
@@ -24,6 +26,11 @@ in_front : {A : Type 0} (xs ys : List A) (k : ℕ) → k < length xs → slice_g
 in_front [] ys k below = absurd (omega arith)
 in_front (x ∷ xs) ys zero below = refl
 in_front (x ∷ xs) ys (suc k) below = in_front xs ys k (omega arith)
+
+first_in_front : (xs ys : List Input) (k : ℕ) → k < length xs → is_first_traffic (xs ++ ys) k ≡ is_first_traffic xs k
+first_in_front [] ys k below = absurd (omega arith)
+first_in_front (x ∷ xs) ys zero below = refl
+first_in_front (x ∷ xs) ys (suc k) below = ap (λ (b : Bool). is_command x && b) (first_in_front xs ys k (omega arith))
 
 -- an input more is counted where one may be fed
 counts : (given : RunInput) (w : World) (o : Option Input) → MayFeedNext w o → (feed_next given w o).fed ≡ w.fed + 1
@@ -45,6 +52,25 @@ same_from s more at (Back id ∷ es) o few = same_from s more (after s.given at 
 same_from s more at (Apply id ∷ es) o few =
     let fed = apply_fed at.world id in let f : at.world.fed + (0 + times is_feed es) ≤ length s.given.inputs = few in same_from s more (after s.given at (Apply id)) es o.1 (omega arith)
 same_from s more at (Stop ∷ es) o few = same_from s more (after s.given at Stop) es o.1 (let f : at.world.fed + (0 + times is_feed es) ≤ length s.given.inputs = few in omega arith)
+
+-- and of what was waited for
+waits_from : (s : Setting) (more : List Input) (at : RunState) (j : List Event) → OrderlyFrom (with_more s more).given s.budget s.seats at j
+    → at.world.fed + times is_feed j ≤ length s.given.inputs → all_wait (with_more s more).given at j ≡ all_wait s.given at j
+waits_from s more at [] o few = refl
+waits_from s more at (Feed ∷ es) o few =
+    let f : at.world.fed + (1 + times is_feed es) ≤ length s.given.inputs = few in
+    let next : slice_get (s.given.inputs ++ more) at.world.fed ≡ slice_get s.given.inputs at.world.fed = in_front s.given.inputs more at.world.fed (omega arith) in
+    let same : after (with_more s more).given at Feed ≡ after s.given at Feed = ap (λ (o : Option Input). let r : RunState = record at { world = feed_next s.given at.world o } in r) next in
+    let one = counts (with_more s more).given at.world (slice_get (s.given.inputs ++ more) at.world.fed) o.0.1.1 in
+    ap (λ (b : Bool). (not b || is_empty at.world.pending) && all_wait (with_more s more).given (after (with_more s more).given at Feed) es)
+    (first_in_front s.given.inputs more at.world.fed (omega arith))
+    ∙ ap (λ (b : Bool). waits s.given at.world Feed && b)
+    (waits_from s more (after (with_more s more).given at Feed) es o.1 (omega arith) ∙ ap (λ (x : RunState). all_wait s.given x es) same)
+waits_from s more at (Take seat id ∷ es) o few = waits_from s more (after s.given at (Take seat id)) es o.1 (let f : at.world.fed + (0 + times is_feed es) ≤ length s.given.inputs = few in omega arith)
+waits_from s more at (Back id ∷ es) o few = waits_from s more (after s.given at (Back id)) es o.1 (let f : at.world.fed + (0 + times is_feed es) ≤ length s.given.inputs = few in omega arith)
+waits_from s more at (Apply id ∷ es) o few =
+    let fed = apply_fed at.world id in let f : at.world.fed + (0 + times is_feed es) ≤ length s.given.inputs = few in waits_from s more (after s.given at (Apply id)) es o.1 (omega arith)
+waits_from s more at (Stop ∷ es) o few = waits_from s more (after s.given at Stop) es o.1 (let f : at.world.fed + (0 + times is_feed es) ≤ length s.given.inputs = few in omega arith)
 
 follows : (b : Bool) (more : List Input) → follow_if b (Some (length more)) more
 follows true more = refl
@@ -78,6 +104,12 @@ module _ (setting : Setting) (fed left : List Input) (journal : List Event) (gav
     same : run_state_after all journal ≡ run_state_of s
     same = ap (λ (inputs : List Input). run_state_after (over setting inputs) journal) (sym (append_assoc setting.given.inputs fed left)) ∙ same_behind
 
+    waited_behind : has_waited (with_more s.setting left) journal ≡ has_waited s.setting journal
+    waited_behind = let long = length-append setting.given.inputs fed in waits_from s.setting left (beginning (start setting)) journal orderly_behind (omega arith)
+
+    waited : has_waited all journal ≡ has_waited s.setting journal
+    waited = ap (λ (inputs : List Input). has_waited (over setting inputs) journal) (sym (append_assoc setting.given.inputs fed left)) ∙ waited_behind
+
     -- a run that did not stop fed all inputs
     quiet : (run_state_after all journal).stopped ≡ false → IsQuiet all.given (run_state_after all journal).world
     quiet on =
@@ -92,6 +124,7 @@ abbrev Whole : Setting → List Input → Story → Type 0
 Whole setting inputs new =
     IsJournal (with_more setting inputs) new.journal × IsWhole (start setting) (with_more setting inputs).given new.journal
     × (run_state_after (with_more setting inputs) new.journal ≡ run_state_of new)
+    × (has_waited (with_more setting inputs) new.journal ≡ true)
 
 pub ran_is_whole : RanIsWhole
 ran_is_whole setting inputs new sound ran =
@@ -104,4 +137,5 @@ ran_is_whole setting inputs new sound ran =
       orderly setting ran.fed ran.left new.journal new.gave_up S feeds,
       record { quiet = quiet setting ran.fed ran.left new.journal new.gave_up S feeds },
       same setting ran.fed ran.left new.journal new.gave_up S feeds,
+      waited setting ran.fed ran.left new.journal new.gave_up S feeds ∙ ap (λ (s : Setting). has_waited s new.journal) (sym ran.setting) ∙ ran.waited,
     ))

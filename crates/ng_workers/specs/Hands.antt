@@ -8,10 +8,11 @@ use Rattle.ng_machine.specs.story.Work.{IsDone}
 use Rattle.ng_core_state.specs.declared.handed.Done.{Done}
 use Rattle.ng_core_state.specs.declared.handed.Work.{Work}
 use Rattle.ng_core_state.specs.Handed.{handed_with, job_with}
+use Rattle.ng_workers.specs.declared.feeder.Feeder.{Feeder}
 use Rattle.ng_workers.specs.declared.next.Next.{Next}
 use Rattle.ng_workers.specs.declared.next.Next.TheVariants as next
 use Rattle.ng_workers.specs.Desks.{IsOver}
-use Rattle.ng_workers.specs.Driving.{Drives, DroveOn, IsOpenFor}
+use Rattle.ng_workers.specs.Driving.{Drives, DroveOn, MayFeed}
 
 -- P is so where there is nothing to be taken
 abbrev pub IfNothing : {W : Type 0} → Next W → Type 0 → Type 0
@@ -26,9 +27,9 @@ IfEnd next.Nothing P = Unit {0}
 IfEnd next.End P = P
 
 -- the seat 0 fed some of the inputs and goes on, and the others may be fed; or it is over
-abbrev pub Drove : {W : Type 0} → Next W → SeatDesk → SeatDesk → List Input → List Input → Type 0
-Drove (next.Taken work) old new inputs left = Drives old new inputs left None × IsOpenFor left new
-Drove next.Nothing old new inputs left = Drives old new inputs left None × IsOpenFor left new
+abbrev pub Drove : {W : Type 0} → Next W → SeatDesk → SeatDesk → List Input → Feeder → Type 0
+Drove (next.Taken work) old new inputs left = Drives old new inputs left.unfed None × MayFeed left new
+Drove next.Nothing old new inputs left = Drives old new inputs left.unfed None × MayFeed left new
 Drove next.End old new inputs left = DroveOn old new inputs
 
 module _ {B : Type 0} (state : B → State) where

@@ -9,10 +9,11 @@ use Rattle.ng_turn.specs.declared.pass.Pass.{Pass}
 use Rattle.ng_turn.specs.declared.turn.Turn.{Turn}
 use Rattle.ng_turn.specs.Words.{EachPass, IsPass, desk_of, seat_of}
 use Rattle.ng_core_state.specs.declared.handed.Done.{Done}
+use Rattle.ng_workers.specs.declared.feeder.Feeder.{Feeder}
 use Rattle.ng_workers.specs.declared.step.Step.{Step}
 use Rattle.ng_workers.specs.declared.step.Step.TheVariants.{Goes, Ends}
 use Rattle.ng_workers.specs.Desks.{Grew, IsOver, IsReady, core_desk}
-use Rattle.ng_workers.specs.Driving.{Drives, DroveOn, IsOpenFor}
+use Rattle.ng_workers.specs.Driving.{Drives, DroveOn, IsOpenFor, MayFeed}
 use Rattle.ng_workers.specs.Hands.{Brings}
 
 -- the seat 0 has the inputs to feed
@@ -47,8 +48,8 @@ module _ {C : Type 0} where
   Leaves state (Ends pass) = IsOver (desk pass)
 
   -- the same of the seat 0, which fed some of the inputs; the others may be fed if it goes on
-  abbrev pub DroveStep : {D : Type 0} → SeatDesk → List Input → List Input → Step (Pass C SeatDesk) D → Type 0
-  DroveStep old inputs left (Goes pass done) = Drives old (desk pass) inputs left None × IsOpenFor left (desk pass)
+  abbrev pub DroveStep : {D : Type 0} → SeatDesk → List Input → Feeder → Step (Pass C SeatDesk) D → Type 0
+  DroveStep old inputs left (Goes pass done) = Drives old (desk pass) inputs left.unfed None × MayFeed left (desk pass)
   DroveStep old inputs left (Ends pass) = DroveOn old (desk pass) inputs
 
   -- P is so of the pass of a seat that is over

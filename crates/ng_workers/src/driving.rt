@@ -2,7 +2,7 @@
 ghost use Rattle.std.specs.Prelude.{◌≡◌, ◌<◌, false};
 ghost use Rattle.ng_turn.specs.Words.{seat_of};
 ghost use Rattle.ng_workers.specs.Desks.{IsOver, IsReady};
-ghost use Rattle.ng_workers.specs.Driving.{DroveOn, IsOpenFor};
+ghost use Rattle.ng_workers.specs.Driving.{DroveOn, IsOpenFor, MayFeed};
 ghost use Rattle.ng_workers.specs.Hands.{Brings, Drove, Takes};
 ghost use Rattle.ng_workers.specs.Passes.{DroveStep, IsOf, Leaves, desk, pass_of};
 
@@ -33,13 +33,13 @@ fn hold<R: Wait, B: Node>(
 ) -> (Pass<Core<B>>, Next<Work<B>>)
     requires turn { IsOf turn.now pass }
     requires seat { seat_of pass ≡ 0 }
-    requires fits { IsOpenFor feeder.old.unfed (desk pass) }
+    requires fits { MayFeed feeder.old (desk pass) }
     requires stays { (desk pass).gave_up ≡ false }
     requires brings { Brings B.state done (desk pass) }
     ensures turn { IsOf turn.now result.0 }
     ensures seat { seat_of result.0 ≡ 0 }
     ensures takes { Takes B.state result.1 (desk result.0) }
-    ensures drove { Drove result.1 (desk pass) (desk result.0) feeder.old.unfed feeder.new.unfed }
+    ensures drove { Drove result.1 (desk pass) (desk result.0) feeder.old.unfed feeder.new }
 {
     let mut held = turn.take(rt, pass);
     let (next, left) = lead(alloc, held.value_mut(), feeder, done);
@@ -63,13 +63,13 @@ fn step<R: Wait, B: Node, G: Gate>(
     requires turn { IsOf turn.now pass }
     requires seat { seat_of pass ≡ 0 }
     requires some { 0 < (desk pass).seats }
-    requires fits { IsOpenFor feeder.old.unfed (desk pass) }
+    requires fits { MayFeed feeder.old (desk pass) }
     requires stays { (desk pass).gave_up ≡ false }
     requires brings { Brings B.state done (desk pass) }
     ensures turn { IsOf turn.now (pass_of result) }
     ensures seat { seat_of (pass_of result) ≡ 0 }
     ensures leaves { Leaves B.state result }
-    ensures drove { DroveStep (desk pass) feeder.old.unfed feeder.new.unfed result }
+    ensures drove { DroveStep (desk pass) feeder.old.unfed feeder.new result }
 {
     let (pass, next) = hold(rt, alloc, turn, pass, feeder, done);
     match next {

@@ -7,7 +7,7 @@ ghost use Rattle.ng_core.specs.CoreStory.{story};
 ghost use Rattle.ng_machine.specs.story.Desks.{Others};
 ghost use Rattle.ng_machine.specs.story.Story.{has_ended};
 ghost use Rattle.ng_workers.specs.Desks.{core_desk};
-ghost use Rattle.ng_workers.specs.Driving.{Drives, IsOpenFor};
+ghost use Rattle.ng_workers.specs.Driving.{Drives, MayFeed};
 ghost use Rattle.ng_workers.specs.Hands.{Brings, Drove, Takes};
 ghost use Rattle.ng_workers.specs.pool.Feeding.{begins_with_traffic};
 ghost use Rattle.ng_workers.specs.SetUp.{IsAllFed, is_held_back, stage_after};
@@ -15,7 +15,6 @@ ghost use Rattle.ng_workers.specs.SetUp.{IsAllFed, is_held_back, stage_after};
 use crate::feeder::{Feeder, is_held_back, stage_after};
 use crate::holding::{Leftover, hand_in, quit, take_next};
 use crate::next::Next;
-use crate::pool::Unfed;
 use ng_base::NoMemory;
 use ng_core::Core;
 use ng_core_state::{Done, Work};
@@ -29,9 +28,9 @@ fn feed_one<B: Node>(
     feeder: &mut Feeder,
 ) -> Result<bool, NoMemory>
     requires running { has_ended (story core.old) ≡ false }
-    requires fits { IsOpenFor feeder.old.unfed (core_desk core.old 0) }
+    requires fits { MayFeed feeder.old (core_desk core.old 0) }
     ensures drives { OnOk result (Drives (core_desk core.old 0) (core_desk core.new 0) feeder.old.unfed feeder.new.unfed None) }
-    ensures fits { OnOk result (IsOpenFor feeder.new.unfed (core_desk core.new 0)) }
+    ensures fits { OnOk result (MayFeed feeder.new (core_desk core.new 0)) }
     ensures less { IfOk result (λ fed. fed ≡ true → length feeder.new.unfed < length feeder.old.unfed) }
     ensures all { IfOk result (λ fed. fed ≡ false → IsAllFed feeder.new.stage (story core.new) feeder.new.unfed) }
     ensures waits { IfOk result (λ fed. fed ≡ true → is_held_back feeder.old.stage (story core.old) feeder.old.unfed ≡ false) }
@@ -55,9 +54,9 @@ fn feed_one<B: Node>(
 // Feeds each input that may be fed now, in order, up to one that is held back. After out of memory some were fed.
 fn feed_all<B: Node>(alloc: Global, core: &mut Core<B>, feeder: &mut Feeder) -> Result<(), NoMemory>
     requires running { has_ended (story core.old) ≡ false }
-    requires fits { IsOpenFor feeder.old.unfed (core_desk core.old 0) }
+    requires fits { MayFeed feeder.old (core_desk core.old 0) }
     ensures drives { OnOk result (Drives (core_desk core.old 0) (core_desk core.new 0) feeder.old.unfed feeder.new.unfed None) }
-    ensures fits { OnOk result (IsOpenFor feeder.new.unfed (core_desk core.new 0)) }
+    ensures fits { OnOk result (MayFeed feeder.new (core_desk core.new 0)) }
     ensures all { OnOk result (IsAllFed feeder.new.stage (story core.new) feeder.new.unfed) }
     ensures running { OnOk result (has_ended (story core.new) ≡ false) }
     ensures some { OnErr result ((left : List TheInput) × Drives (core_desk core.old 0) (core_desk core.new 0) feeder.old.unfed left None) }
@@ -73,35 +72,35 @@ fn feed_all<B: Node>(alloc: Global, core: &mut Core<B>, feeder: &mut Feeder) -> 
 }
 
 // Closes the core, where it may be closed; else there is nothing to do now.
-fn close<B: Node>(core: &mut Core<B>, unfed: &Unfed) -> Next<Work<B>>
+fn close<B: Node>(core: &mut Core<B>, feeder: &Feeder) -> Next<Work<B>>
     requires running { has_ended (story core.old) ≡ false }
-    requires fits { IsOpenFor unfed.now (core_desk core.old 0) }
+    requires fits { MayFeed feeder.now (core_desk core.old 0) }
     requires stays { (core_desk core.old 0).gave_up ≡ false }
     requires idle { (core_desk core.old 0).job ≡ Idle }
     ensures takes { Takes B.state result (core_desk core.new 0) }
-    ensures drove { Drove result (core_desk core.old 0) (core_desk core.new 0) unfed.now unfed.now }
+    ensures drove { Drove result (core_desk core.old 0) (core_desk core.new 0) feeder.now.unfed feeder.now }
     ensures others { Others 0 (story core.old) (story core.new) }
 {
-    match core.close(unfed.len() as u64) {
+    match core.close(feeder.unfed.len() as u64) {
         Ok(()) => Next::End,
         Err(_) => Next::Nothing,
     }
 }
 
 // Takes an item, or closes the core where nothing is left to do.
-fn take_or_close<B: Node>(alloc: Global, core: &mut Core<B>, unfed: &Unfed) -> Next<Work<B>>
+fn take_or_close<B: Node>(alloc: Global, core: &mut Core<B>, feeder: &Feeder) -> Next<Work<B>>
     requires running { has_ended (story core.old) ≡ false }
-    requires fits { IsOpenFor unfed.now (core_desk core.old 0) }
+    requires fits { MayFeed feeder.now (core_desk core.old 0) }
     requires stays { (core_desk core.old 0).gave_up ≡ false }
     requires idle { (core_desk core.old 0).job ≡ Idle }
     ensures takes { Takes B.state result (core_desk core.new 0) }
-    ensures drove { Drove result (core_desk core.old 0) (core_desk core.new 0) unfed.now unfed.now }
+    ensures drove { Drove result (core_desk core.old 0) (core_desk core.new 0) feeder.now.unfed feeder.now }
     ensures others { Others 0 (story core.old) (story core.new) }
 {
     core.journal();
     match take_next(alloc, core, 0) {
         Next::Taken(taken) => Next::Taken(taken),
-        Next::Nothing => close(core, unfed),
+        Next::Nothing => close(core, feeder),
         Next::End => Next::End,
     }
 }
@@ -109,11 +108,11 @@ fn take_or_close<B: Node>(alloc: Global, core: &mut Core<B>, unfed: &Unfed) -> N
 // Feeds what may be fed, and then takes an item or closes the core. Where the core has failed or memory runs out the seat gives
 // up.
 fn feed_and_take<B: Node>(alloc: Global, core: &mut Core<B>, feeder: &mut Feeder) -> Next<Work<B>>
-    requires fits { IsOpenFor feeder.old.unfed (core_desk core.old 0) }
+    requires fits { MayFeed feeder.old (core_desk core.old 0) }
     requires stays { (core_desk core.old 0).gave_up ≡ false }
     requires idle { (core_desk core.old 0).job ≡ Idle }
     ensures takes { Takes B.state result (core_desk core.new 0) }
-    ensures drove { Drove result (core_desk core.old 0) (core_desk core.new 0) feeder.old.unfed feeder.new.unfed }
+    ensures drove { Drove result (core_desk core.old 0) (core_desk core.new 0) feeder.old.unfed feeder.new }
     ensures others { Others 0 (story core.old) (story core.new) }
 {
     core.journal();
@@ -121,7 +120,7 @@ fn feed_and_take<B: Node>(alloc: Global, core: &mut Core<B>, feeder: &mut Feeder
         return quit(core, 0);
     }
     match feed_all(alloc, core, feeder) {
-        Ok(()) => take_or_close(alloc, core, &feeder.unfed),
+        Ok(()) => take_or_close(alloc, core, feeder),
         Err(NoMemory) => {
             core.journal();
             quit(core, 0)
@@ -137,11 +136,11 @@ pub(crate) fn lead<B: Node>(
     feeder: &mut Feeder,
     done: Option<Done<B>>,
 ) -> (Next<Work<B>>, Leftover<B>)
-    requires fits { IsOpenFor feeder.old.unfed (core_desk core.old 0) }
+    requires fits { MayFeed feeder.old (core_desk core.old 0) }
     requires stays { (core_desk core.old 0).gave_up ≡ false }
     requires brings { Brings B.state done (core_desk core.old 0) }
     ensures takes { Takes B.state result.0 (core_desk core.new 0) }
-    ensures drove { Drove result.0 (core_desk core.old 0) (core_desk core.new 0) feeder.old.unfed feeder.new.unfed }
+    ensures drove { Drove result.0 (core_desk core.old 0) (core_desk core.new 0) feeder.old.unfed feeder.new }
     ensures others { Others 0 (story core.old) (story core.new) }
 {
     core.journal();

@@ -22,12 +22,12 @@ pub get_next : {A : Type 0} (xs ys : List A) (x : A) → slice_get (xs ++ x ∷ 
 get_next [] ys x = refl
 get_next (z ∷ zs) ys x = get_next zs ys x
 
-feed_some : (w : World) (o : Option Input) → MayFeedNext w o → is_some o ≡ true
+pub feed_some : (w : World) (o : Option Input) → MayFeedNext w o → is_some o ≡ true
 feed_some w None a = absurd a
 feed_some w (Some input) a = refl
 
 -- an event that is allowed does the same with more inputs behind
-same_after : (s : Setting) (more : List Input) (at : RunState) (e : Event) → AllowedEvent s.given s.budget s.seats at e → after (with_more s more).given at e ≡ after s.given at e
+pub same_after : (s : Setting) (more : List Input) (at : RunState) (e : Event) → AllowedEvent s.given s.budget s.seats at e → after (with_more s more).given at e ≡ after s.given at e
 same_after s more at Feed a =
     let next = get_front s.given.inputs more at.world.fed (feed_some at.world (slice_get s.given.inputs at.world.fed) a.1) in
     ap (λ (o : Option Input). record at { world = feed_next s.given at.world o }) next

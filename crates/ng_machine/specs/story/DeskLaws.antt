@@ -35,7 +35,7 @@ ApplyTells =
 
 -- the first seat's desk gains a Feed, and has the input
 abbrev pub fed_desk : Story → Input → SeatDesk
-fed_desk s input = record (desk_with (story_desk s 0) Feed (story_job s 0)) { first = first_desk (with_input s input).setting s.closed 0 }
+fed_desk s input = record (desk_with (story_desk s 0) Feed (story_job s 0)) { first = first_desk (with_input s input).setting (s.journal ++ Feed ∷ []) s.closed 0 }
 
 abbrev pub FeedTells : Type 0
 FeedTells =
@@ -48,7 +48,7 @@ stop_events true = Stop ∷ []
 stop_events false = []
 
 abbrev pub closed_desk : Story → ℕ → SeatDesk
-closed_desk s unfed = record (story_desk s 0) { own = (story_desk s 0).own ++ stop_events (stops s unfed); first = first_desk s.setting (Some unfed) 0 }
+closed_desk s unfed = record (story_desk s 0) { own = (story_desk s 0).own ++ stop_events (stops s unfed); first = first_desk s.setting s.journal (Some unfed) 0 }
 
 abbrev pub CloseTells : Type 0
 CloseTells = (s : Story) (unfed : ℕ) → Others 0 s (closed_with s unfed) × (story_desk (closed_with s unfed) 0 ≡ closed_desk s unfed)

@@ -1,7 +1,8 @@
 // The inputs that are not fed yet.
 ghost use Rattle.std.specs.Prelude.{◌≡◌, ◌∷◌, false, true, length, IfOk, OnErr};
 ghost use Rattle.ng_machine.specs.Refusal.{feed_refusal};
-ghost use Rattle.ng_workers.specs.pool.Feeding.{IsFed, IsUnfed, begins_with_traffic, is_traffic};
+ghost use Rattle.ng_machine.specs.SetUp.{is_traffic};
+ghost use Rattle.ng_workers.specs.pool.Feeding.{IsFed, IsUnfed, begins_with_traffic};
 ghost use Rattle.ng_core.specs.CoreStory.{story};
 ghost use Rattle.ng_machine.specs.story.Desks.{Others, story_job};
 ghost use Rattle.ng_machine.specs.story.Story.{AreFitFor, has_ended, world_of};

@@ -1,6 +1,7 @@
-use Rattle.std.proofs.Common.{◌≡◌, ℕ, ◌<◌, List, map, sym, ap, subst, arith}
+use Rattle.std.proofs.Common.{◌≡◌, ℕ, ◌<◌, List, map, true, sym, ap, subst, arith}
 use Rattle.ng_base.specs.declared.kind.Kind.{Kind}
 use Rattle.ng_machine.specs.LowRun.{IsModest}
+use Rattle.ng_machine.specs.SetUp.{has_waited}
 use Rattle.ng_machine.specs.State.{kind_of}
 use Rattle.ng_core.specs.CoreStory.{CoreStory, setting_of, story}
 use Rattle.ng_machine.specs.story.Story.{AreFitFor, run_state_of, with_more}
@@ -35,8 +36,14 @@ ran g c = subst (λ (x : CoreStory). RanToEnd (story x) c.args.inputs.items (sto
 
 whole : (g : _) (c : After-journal-journal g) → IsWholeRun (kinds_of g c) c.args.words.now c.args.seats c.args.inputs.items c.in-Ok-run_workers.core
 whole g c =
-    c.ran_is_whole.ensures (setting_of (begun_by (kinds_of g c) c.args.words.now c.args.seats)) c.args.inputs.items (story c.in-Ok-run_workers.core)
-    c.journal-journal.ensures.sound (ran g c)
+    let it = c.ran_is_whole.ensures (setting_of (begun_by (kinds_of g c) c.args.words.now c.args.seats)) c.args.inputs.items (story c.in-Ok-run_workers.core)
+    c.journal-journal.ensures.sound (ran g c) in (it.0, it.1, it.2)
+
+waited : (g : _) (c : After-journal-journal g)
+    → has_waited (with_more (setting_of (begun_by (kinds_of g c) c.args.words.now c.args.seats)) c.args.inputs.items) c.in-Ok-run_workers.core.journal ≡ true
+waited g c =
+    (c.ran_is_whole.ensures (setting_of (begun_by (kinds_of g c) c.args.words.now c.args.seats)) c.args.inputs.items (story c.in-Ok-run_workers.core)
+    c.journal-journal.ensures.sound (ran g c)).3
 
 no_worker : (n : ℕ) → 0 < n → n ≡ 0 → ⊥
 no_worker n some none = omega arith
@@ -46,6 +53,7 @@ returns-in-Ok-run_workers-clause-run g c =
     let late = (goal.at.returns-in-Ok-run_workers-clause-run g c).After-journal-journal in
     is_run (kinds_of g late) c.args.words.now c.args.seats c.args.inputs.items c.in-Ok-run_workers.core c.requires.seats (whole g late)
     (λ none. absurd (no_worker c.args.words.now.workers c.requires.some none))
+    (λ some. waited g late)
 
 pub returns-in-Ok-run_workers-clause-world : goal.returns-in-Ok-run_workers-clause-world
 returns-in-Ok-run_workers-clause-world g c =

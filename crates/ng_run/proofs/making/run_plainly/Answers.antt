@@ -1,4 +1,4 @@
-use Rattle.std.proofs.Common.{◌∙◌, ℕ, ◌+◌, List, map, sym, ap, subst}
+use Rattle.std.proofs.Common.{◌≡◌, ◌≤◌, ◌∙◌, ℕ, ◌+◌, List, map, sym, ap, subst, arith}
 use Rattle.ng_base.specs.declared.kind.Kind.{Kind}
 use Rattle.ng_machine.specs.LowRun.{IsModest}
 use Rattle.ng_machine.specs.State.{kind_of}
@@ -31,12 +31,16 @@ whole g c =
     c.plainly_is_whole.ensures (setting_of (begun_by (kinds_of g c) c.args.words.now c.args.seats)) c.args.inputs.items (story c.plain.new.core)
     c.journal-journal.ensures.sound (went g c)
 
+a_worker : (n : ℕ) → n ≡ 0 → 1 ≤ n → ⊥
+a_worker n none some = omega arith
+
 pub returns-in-Ok-plain-clause-run : goal.returns-in-Ok-plain-clause-run
 returns-in-Ok-plain-clause-run g c =
     let late = (goal.at.returns-in-Ok-plain-clause-run g c).After-journal-journal in
     is_run (kinds_of g late) c.args.words.now c.args.seats c.args.inputs.items c.plain.new.core c.requires.seats (whole g late)
     (λ none. c.plainly_is_plain.ensures (setting_of (begun_by (kinds_of g late) c.args.words.now c.args.seats)) c.args.inputs.items (story c.plain.new.core)
     (c.requires.seats ∙ ap (λ (n : ℕ). n + 1) none) c.journal-journal.ensures.sound (went g late))
+    (λ some. absurd (a_worker c.args.words.now.workers c.requires.none some))
 
 pub returns-in-Ok-plain-clause-world : goal.returns-in-Ok-plain-clause-world
 returns-in-Ok-plain-clause-world g c =

@@ -15,7 +15,7 @@ loop-init g c =
       c.requires.ready.stays,
       c.requires.ready.idle,
       subst (λ (l : List Input). Drives d d c.args.inputs.items l None) (sym c.new-unfed.ensures) (drives_none d c.args.inputs.items c.requires.fits),
-      subst (λ (l : List Input). IsOpenFor l d) (sym c.new-unfed.ensures) c.requires.fits,
+      (subst (λ (l : List Input). IsOpenFor l d) (sym c.new-unfed.ensures) c.requires.fits, tt),
     )
 
 pub loop-preserved : goal.loop-preserved

@@ -5,7 +5,7 @@ use Rattle.ng_workers.proofs.Driven.{drives_none, drives_then}
 use Rattle.ng_workers.proofs.feeding.feed_all.Goals as goal
 
 pub loop-init : goal.loop-init
-loop-init g c = (drives_none (core_desk c.args.core.now 0) c.args.feeder.now.unfed c.requires.fits, c.requires.fits, c.requires.running, refl, refl, λ other else. refl)
+loop-init g c = (drives_none (core_desk c.args.core.now 0) c.args.feeder.now.unfed c.requires.fits.0, c.requires.fits, c.requires.running, refl, refl, λ other else. refl)
 
 pub returns-then-not-branch-clause-drives : goal.returns-then-not-branch-clause-drives
 returns-then-not-branch-clause-drives g c =
