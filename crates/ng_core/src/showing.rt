@@ -6,11 +6,13 @@ ghost use Rattle.ng_machine.specs.LowRun.{IsModest};
 ghost use Rattle.ng_core.specs.CoreStory.{setting_of, story};
 ghost use Rattle.ng_core.specs.Lawful.{IsLawful};
 ghost use Rattle.ng_machine.specs.story.SoundStory.{IsSoundStory};
-ghost use Rattle.ng_machine.specs.story.Story.{world_of};
+ghost use Rattle.ng_machine.specs.story.Story.{run_state_of, world_of};
+ghost use Rattle.ng_core_state.specs.Stands.{Stands};
 
 use crate::Core;
 use crate::counting::{count_hooks, count_nodes};
 use ng_base::{Packet, Stamp};
+use ng_core_state::State;
 use ng_journal::kept::Journal;
 use ng_machine::{PortTotals, Told, Totals};
 use ng_plan::node::Node;
@@ -53,6 +55,14 @@ impl<B: Node> Core<B> {
         ensures { result ≡ (length (world_of (story self.now)).pending == 0) }
     {
         self.parts.state.pending.tally.pending == 0
+    }
+
+    /// What is kept of the world, to be looked at: the graph, what waits at each node, the counts, what was told and what
+    /// left.
+    pub fn state(&self) -> &State<B>
+        ensures { Stands result.now (run_state_of (story self.now)) }
+    {
+        &self.parts.state
     }
 
     /// What was told, in order.

@@ -6,6 +6,7 @@ mod judging;
 mod laws;
 mod verdict;
 
-pub use judging::judge;
+pub use following::{follow, know_story, let_go};
+pub use judging::{empty_hands, is_whole, judge};
 pub use laws::{one_verdict, runs_are_accepted};
 pub use verdict::Verdict;

@@ -21,7 +21,7 @@ use ng_workers::pool::{Unfed, work};
 use std::alloc::Global;
 
 /// Does nothing: it says what the core's type keeps of its story.
-pub(super) fn know_story<B: Node>(core: &Core<B>)
+pub fn know_story<B: Node>(core: &Core<B>)
     ensures sound { IsSoundStory (story core.now) }
     ensures fits { AreFit (setting_of core.now) }
 {
@@ -138,8 +138,8 @@ fn seat_of<B: Node>(held: &[Option<Work<B>>], id: ItemId) -> Option<usize>
     position_of(held, id)
 }
 
-// The seat that holds the item, and the work on it; then it holds nothing.
-fn let_go<B: Node>(held: &mut [Option<Work<B>>], id: ItemId) -> Option<(u32, Work<B>)>
+/// The seat that holds the item, and the work on it; then it holds nothing. None if no seat holds it.
+pub fn let_go<B: Node>(held: &mut [Option<Work<B>>], id: ItemId) -> Option<(u32, Work<B>)>
     requires few { length held.old < 2 ^ 32 }
     ensures within { IfSome result (λ gone. gone.0 < length held.old) }
     ensures held { IfSome result (λ gone. held_at held.old gone.0 ≡ Some gone.1) }
@@ -230,11 +230,12 @@ fn stop<B: Node>(core: &mut Core<B>, unfed: &Unfed) -> bool
     closed.unwrap_or(false)
 }
 
-/// Follows an event, where it is allowed; false where it isn't, and the core is of no more use then.
+/// Follows an event, as it was in a journal: the core does it where it is allowed, with what each seat holds and the inputs
+/// that are left. False where it isn't allowed, and the core is of no more use then.
 ///
 /// # Errors
 /// `NoMemory` where memory ran out, and for nothing else.
-pub(super) fn follow<B: Node>(
+pub fn follow<B: Node>(
     alloc: Global,
     core: &mut Core<B>,
     held: &mut [Option<Work<B>>],

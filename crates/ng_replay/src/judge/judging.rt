@@ -22,8 +22,11 @@ use ng_plan::node::Node;
 use ng_workers::pool::Unfed;
 use std::alloc::Global;
 
-// Each seat holds nothing.
-fn empty_hands<B: Node>(alloc: Global, seats: u32) -> Result<Vec<Option<Work<B>>>, NoMemory>
+/// What so many seats hold at the beginning of a run: each of them nothing.
+///
+/// # Errors
+/// `NoMemory` where memory ran out, and for nothing else.
+pub fn empty_hands<B: Node>(alloc: Global, seats: u32) -> Result<Vec<Option<Work<B>>>, NoMemory>
     ensures nothing { IfOk result (λ held. (seat : ℕ) → held_at held.items seat ≡ None) }
     ensures len { IfOk result (λ held. length held.items ≡ seats) }
 {
@@ -62,8 +65,8 @@ fn follow_all<B: Node>(
     Ok(None)
 }
 
-// Whether a core that has followed a journal is at the run's end: it stopped, or nothing is pending or unfed.
-fn is_whole<B: Node>(core: &mut Core<B>, unfed: &Unfed) -> bool
+/// Whether a core that has followed a journal is at the run's end: it stopped, or nothing is pending or unfed.
+pub fn is_whole<B: Node>(core: &mut Core<B>, unfed: &Unfed) -> bool
     requires goes { Goes (story core.old) unfed.now }
     ensures whole { result ≡ true → IsWhole (start (all_with (story core.old) unfed.now)) (all_with (story core.old) unfed.now).given (story core.old).journal }
     ensures cut { result ≡ false → IsWhole (start (all_with (story core.old) unfed.now)) (all_with (story core.old) unfed.now).given (story core.old).journal → ⊥ }

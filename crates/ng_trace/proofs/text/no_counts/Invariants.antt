@@ -1,0 +1,6 @@
+-- As many as there were turns.
+use Rattle.std.proofs.Common.{◌≡◌, replicate}
+use Rattle.ng_trace.proofs.text.no_counts.Given as goal
+
+abbrev pub invariant-loop : goal.invariant-loop
+invariant-loop l = l.counts.items ≡ replicate l.counter 0
