@@ -52,9 +52,9 @@ fn script_of(alloc: Global, bytes: &[u8]) -> Result<ReadScript, NoMemory>
 }
 
 // The capture of bytes that are in form.
-fn capture_of(alloc: Global, bytes: &[u8]) -> Result<Capture, NoMemory>
-    requires { IsCapture bytes.now }
-    ensures read { IfOk result (λ capture. capture ≡ capture_in (Some bytes.now)) }
+fn capture_of(alloc: Global, bytes: Vec<u8>) -> Result<Capture, NoMemory>
+    requires { IsCapture bytes.items }
+    ensures read { IfOk result (λ capture. capture ≡ capture_in (Some bytes.items)) }
     ensures writable { IfOk result (λ capture. Every IsWritable capture.kept) }
 {
     match parse_capture(alloc, bytes) {
@@ -71,14 +71,14 @@ fn capture_of(alloc: Global, bytes: &[u8]) -> Result<Capture, NoMemory>
 }
 
 // The captures of these bytes.
-fn captures_of(alloc: Global, files: &[Bytes]) -> Result<Vec<Capture>, NoMemory>
-    requires { All IsCapture files.now }
-    ensures read { IfOk result (λ captures. captures.items ≡ map (λ bytes. capture_in (Some bytes)) files.now) }
+fn captures_of(alloc: Global, files: Vec<Bytes>) -> Result<Vec<Capture>, NoMemory>
+    requires { All IsCapture files.items }
+    ensures read { IfOk result (λ captures. captures.items ≡ map (λ bytes. capture_in (Some bytes)) files.items) }
     ensures writable { IfOk result (λ captures. AreAllWritable captures.items) }
 {
     let mut captures = Vec::new(alloc);
     for bytes in files {
-        captures.push(capture_of(alloc, &bytes.0)?)?;
+        captures.push(capture_of(alloc, bytes.0)?)?;
     }
     Ok(captures)
 }
@@ -97,7 +97,7 @@ pub fn read_made(alloc: Global, n: u32) -> Result<(ReadIn, Vec<PortWord>), NoMem
     let made = make(alloc, n)?;
     made_is_in_form();
     let script = script_of(alloc, &made.script.0)?;
-    let captures = captures_of(alloc, made.captures.as_slice())?;
+    let captures = captures_of(alloc, made.captures.into_vec())?;
     let ports = ports_of(alloc, made.ports.as_slice())?;
     Ok((ReadIn { script, captures }, ports))
 }

@@ -75,10 +75,10 @@ pub(crate) fn parse_script(alloc: Global, bytes: &[u8]) -> Result<ReadScript, Sc
 ///
 /// # Errors
 /// The first fault of the bytes, or `NoMemory` where memory ran out.
-pub(crate) fn parse_capture(alloc: Global, bytes: &[u8]) -> Result<Capture, CaptureFault>
-    ensures read { IfOk result (λ capture. capture_of bytes.now ≡ Ok capture) }
+pub(crate) fn parse_capture(alloc: Global, bytes: Vec<u8>) -> Result<Capture, CaptureFault>
+    ensures read { IfOk result (λ capture. capture_of bytes.items ≡ Ok capture) }
     ensures writable { IfOk result (λ capture. Every IsWritable capture.kept) }
-    ensures fault { IfErr result (λ why. (why ≡ capture_faults.NoMemory) ⊎ (fault_in (capture_of bytes.now) ≡ Some why)) }
+    ensures fault { IfErr result (λ why. (why ≡ capture_faults.NoMemory) ⊎ (fault_in (capture_of bytes.items) ≡ Some why)) }
 {
     read_capture(alloc, bytes)
 }
@@ -101,17 +101,17 @@ fn has_more(bytes: &[u8], most: u64) -> Result<bool, CaptureFault>
 /// The first fault of the bytes, or `NoMemory` where memory ran out.
 pub(crate) fn parse_capture_within(
     alloc: Global,
-    bytes: &[u8],
+    bytes: Vec<u8>,
     most: u64,
 ) -> Result<Option<Capture>, CaptureFault>
-    ensures read { IfOk result (λ found. IfSome found (λ capture. capture_of bytes.now ≡ Ok capture)) }
+    ensures read { IfOk result (λ found. IfSome found (λ capture. capture_of bytes.items ≡ Ok capture)) }
     ensures few { IfOk result (λ found. IfSome found (λ capture. length capture.kept ≤ most)) }
     ensures writable { IfOk result (λ found. IfSome found (λ capture. Every IsWritable capture.kept)) }
-    ensures fine { IfOk result (λ found. found ≡ None → fault_in (capture_of bytes.now) ≡ None) }
-    ensures many { IfOk result (λ found. found ≡ None → most < packets_in bytes.now) }
-    ensures fault { IfErr result (λ why. (why ≡ capture_faults.NoMemory) ⊎ (fault_in (capture_of bytes.now) ≡ Some why)) }
+    ensures fine { IfOk result (λ found. found ≡ None → fault_in (capture_of bytes.items) ≡ None) }
+    ensures many { IfOk result (λ found. found ≡ None → most < packets_in bytes.items) }
+    ensures fault { IfErr result (λ why. (why ≡ capture_faults.NoMemory) ⊎ (fault_in (capture_of bytes.items) ≡ Some why)) }
 {
-    if has_more(bytes, most)? {
+    if has_more(&bytes, most)? {
         return Ok(None);
     }
     let capture = parse_capture(alloc, bytes)?;

@@ -82,8 +82,9 @@ fn read_port_file<F: Files>(
         Err(ReadStop::TooBig) => return Err(Fault::TooBig(Which::Capture(port))),
         Err(ReadStop::NoMemory) => return Err(Fault::NoMemory),
     };
-    match parse_capture_within(alloc, &held, MOST_PACKETS - packets) {
-        Ok(Some(capture)) => Ok((capture, held.len() as u64)),
+    let len = held.len() as u64;
+    match parse_capture_within(alloc, held, MOST_PACKETS - packets) {
+        Ok(Some(capture)) => Ok((capture, len)),
         Ok(None) => Err(Fault::TooBig(Which::Capture(port))),
         Err(why) => Err(stop_of_capture(port, why)),
     }

@@ -1,7 +1,7 @@
 -- Reading packets one after the other, as a loop does.
 use Rattle.std.proofs.Common.{◌≡◌, ℕ, zero, suc, ◌-◌, ◌+◌, ◌≤◌, ◌<◌, false, eqb, List, [], ◌∷◌, ◌++◌, length, take, drop, Option, Some, None, Result, Ok, Err, refl, sym, ap, ◌∙◌, append_assoc, arith}
 use Rattle.std.proofs.lemmas.Bool.{ne_eqb}
-use Rattle.std.proofs.lemmas.List.{append-nil, length-append, length-drop}
+use Rattle.std.proofs.lemmas.List.{append-nil, drop-drop, length-append, length-drop}
 use Rattle.ng_base.specs.declared.ids.Stamp.{Stamp}
 use Rattle.ng_pcap.specs.declared.capture.Capture.{Capture}
 use Rattle.ng_pcap.specs.declared.fault.CaptureFault.{CaptureFault}
@@ -65,6 +65,7 @@ pub record IsSoFar (format : Format) (bytes : List ℕ) (prefix : List (Stamp ×
   pub turns : ℕ
   pub enough : length left ≤ turns
   pub place : length left + 24 ≤ length bytes
+  pub tail : left ≡ drop (length bytes - length left) bytes
   pub same : with_prefix prefix (packets turns format (length bytes - length left) left)
       ≡ packets (length bytes) format 24 (drop 24 bytes)
 
@@ -76,6 +77,7 @@ begins format bytes left whole is_left =
       turns = length bytes;
       enough = omega arith;
       place = omega arith;
+      tail = is_left ∙ ap (λ (n : ℕ). drop n bytes) (sym place);
       same = with_prefix-nil (packets (length bytes) format (length bytes - length left) left) ∙ rw (place, is_left) refl;
     }
 
@@ -88,15 +90,28 @@ behind_place bytes left behind len place whole is_behind =
     omega (arith, ap length is_behind, length-drop len (drop 16 left), length-drop 16 left) in
     (e, omega arith)
 
+-- what is after a packet, and the packet, as parts of the file
+tail_behind : (bytes left : List ℕ) (len : ℕ) → left ≡ drop (length bytes - length left) bytes
+    → drop len (drop 16 left) ≡ drop (length bytes - length left + 16 + len) bytes
+tail_behind bytes left len tail =
+    let place : ℕ = length bytes - length left in
+    ap (λ (l : List ℕ). drop len (drop 16 l)) tail ∙ ap (drop len) (drop-drop 16 place bytes) ∙ drop-drop len (place + 16) bytes
+
+pub part_after_head : (format : Format) (bytes left : List ℕ) (prefix : List (Stamp × List ℕ)) (len : ℕ) → IsSoFar format bytes prefix left
+    → take len (drop (length bytes - length left + 16) bytes) ≡ take len (drop 16 left)
+part_after_head format bytes left prefix len so_far =
+    let place : ℕ = length bytes - length left in
+    sym (ap (λ (l : List ℕ). take len (drop 16 l)) so_far.tail ∙ ap (take len) (drop-drop 16 place bytes))
+
 one_more : (format : Format) (bytes left packet behind : List ℕ) (prefix : List (Stamp × List ℕ)) (head : PacketHead) (turns : ℕ)
     → 0 < length left → packet_head format (length bytes - length left) left ≡ Ok (Some head) → 16 + head.len ≤ length left
     → packet ≡ take head.len (drop 16 left) → behind ≡ drop head.len (drop 16 left)
-    → length left ≤ turns → length left + 24 ≤ length bytes
+    → length left ≤ turns → length left + 24 ≤ length bytes → left ≡ drop (length bytes - length left) bytes
     → with_prefix prefix (packets turns format (length bytes - length left) left) ≡ packets (length bytes) format 24 (drop 24 bytes)
     → IsSoFar format bytes (prefix ++ (head.stamp, packet) ∷ []) behind
-one_more format bytes left packet behind prefix head zero some found whole is_packet is_behind enough place same =
+one_more format bytes left packet behind prefix head zero some found whole is_packet is_behind enough place tail same =
     absurd (omega arith)
-one_more format bytes left packet behind prefix head (suc turns) some found whole is_packet is_behind enough place same =
+one_more format bytes left packet behind prefix head (suc turns) some found whole is_packet is_behind enough place tail same =
     let at = behind_place bytes left behind head.len place whole is_behind in
     let len = at.0 in
     let turn = packets-packet turns format (length bytes - length left) left head some found in
@@ -104,6 +119,7 @@ one_more format bytes left packet behind prefix head (suc turns) some found whol
       turns = turns;
       enough = omega arith;
       place = omega arith;
+      tail = is_behind ∙ tail_behind bytes left head.len tail ∙ ap (λ (n : ℕ). drop n bytes) (sym at.1);
       same =
           rw (at.1, is_packet, is_behind)
           (sym (with_prefix-with_packet prefix (head.stamp, take head.len (drop 16 left))
@@ -117,7 +133,7 @@ pub goes_on : (format : Format) (bytes left packet behind : List ℕ) (prefix : 
     → packet ≡ take head.len (drop 16 left) → behind ≡ drop head.len (drop 16 left)
     → IsSoFar format bytes prefix left → IsSoFar format bytes (prefix ++ (head.stamp, packet) ∷ []) behind
 goes_on format bytes left packet behind prefix head some found whole is_packet is_behind so_far =
-    one_more format bytes left packet behind prefix head so_far.turns some found whole is_packet is_behind so_far.enough so_far.place so_far.same
+    one_more format bytes left packet behind prefix head so_far.turns some found whole is_packet is_behind so_far.enough so_far.place so_far.tail so_far.same
 
 -- the three ends
 pub is_whole : (format : Format) (bytes left : List ℕ) (prefix : List (Stamp × List ℕ)) → length left ≡ 0

@@ -16,8 +16,7 @@ struct PacketHead {
 
 /// The capture that a file's bytes are (pcap-savefile(5)).
 ///
-/// The packets come in the file's order, and each packet's bytes are copied once. A packet of no bytes
-/// is a packet. A fraction at or above a whole second counts as the last one below it. Where the
+/// The packets come in the file's order, and share the file's bytes. A packet of no bytes is a packet. A fraction at or above a whole second counts as the last one below it. Where the
 /// file's end cuts a packet or its head, the capture ends before it and says where that head stands.
 /// The zone, the accuracy, the longest kept length and each packet's original length may be any
 /// numbers.
@@ -28,11 +27,12 @@ struct PacketHead {
 /// isn't 2.4, `BadLink` with the link type where it isn't Ethernet, `TooLong` with the place of the
 /// packet's head and the length that it says, for the first that says more than
 /// `MAX_PACKET_LEN`; or `NoMemory` where memory ran out and none of the first four holds.
-pub fn read_capture(alloc: Global, bytes: &[u8]) -> Result<Capture, CaptureFault>
-    ensures { IsAnswer bytes.now result }
+pub fn read_capture(alloc: Global, bytes: Vec<u8>) -> Result<Capture, CaptureFault>
+    ensures { IsAnswer bytes.items result }
 {
-    let format = read_head(bytes)?;
-    read_packets(alloc, format, bytes)
+    let format = read_head(&bytes)?;
+    let file = Packet::from_bytes(alloc, bytes)?;
+    read_packets(alloc, format, &file)
 }
 
 /// How many packets the capture has that a file's bytes are. The packets are passed over and not kept, so it takes no memory:
@@ -68,22 +68,24 @@ fn read_head(bytes: &[u8]) -> Result<Format, CaptureFault>
     Ok(format)
 }
 
-/// The packets that stand behind the file's head.
-fn read_packets(alloc: Global, format: Format, bytes: &[u8]) -> Result<Capture, CaptureFault>
-    requires { HEAD_LEN ≤ length bytes.now }
-    ensures { IsUnlessNoMemory (packets (length bytes.now) format 24 (drop 24 bytes.now)) result }
+/// The packets that stand after the file's head, as parts of the file.
+fn read_packets(alloc: Global, format: Format, file: &Packet) -> Result<Capture, CaptureFault>
+    requires { HEAD_LEN ≤ length file.now }
+    ensures { IsUnlessNoMemory (packets (length file.now) format 24 (drop 24 file.now)) result }
 {
     let mut kept = Sequence::new(alloc);
+    let bytes = file.bytes();
     let (_, mut left) = bytes.split_at(HEAD_LEN);
     while !left.is_empty() {
-        let place = (bytes.len() - left.len()) as u64;
-        let Some(head) = read_packet_head(format, place, left)? else {
-            let cut = Some(place);
+        let place = bytes.len() - left.len();
+        let Some(head) = read_packet_head(format, place as u64, left)? else {
+            let cut = Some(place as u64);
             return Ok(Capture { kept, cut });
         };
         let (_, text) = left.split_at(PACKET_HEAD_LEN);
-        let (packet, behind) = text.split_at(head.len);
-        kept.push((head.stamp, Packet::new(alloc, packet)?))?;
+        let (_, behind) = text.split_at(head.len);
+        let packet = file.part(place + PACKET_HEAD_LEN, head.len)?;
+        kept.push((head.stamp, packet))?;
         left = behind;
     }
     Ok(Capture { kept, cut: None })

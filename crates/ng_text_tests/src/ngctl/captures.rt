@@ -91,9 +91,9 @@ fn is_read(
     packets: &[(u64, &[u8])],
 ) -> Result<(), Fail> {
     let bytes = file(alloc, parts)?;
-    let capture = read_capture(alloc, &bytes)?;
-    assert_eq!(rt; capture.kept.as_slice().len(), packets.len());
     assert_eq!(rt; count_packets(&bytes)?, packets.len() as u64);
+    let capture = read_capture(alloc, bytes)?;
+    assert_eq!(rt; capture.kept.as_slice().len(), packets.len());
     for ((stamp, packet), (time, bytes)) in capture.kept.as_slice().iter().zip(packets) {
         assert_eq!(rt; stamp.0, *time);
         assert_eq!(rt; packet.bytes(), *bytes);
