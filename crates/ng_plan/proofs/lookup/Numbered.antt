@@ -42,3 +42,7 @@ number_missing stem (suc n) hook none = rw (none n (omega arith)) (number_missin
 
 pub link_missing : (hook : List ℕ) → ((k : ℕ) → k < most_links → bytes_eq (link_hook k) hook ≡ false) → most_links ≡ link_number hook
 link_missing hook none = sym (ap (λ o. unwrap_or o most_links) (number_missing (codes "link") most_links hook none))
+
+-- and a number whose hook the name is, is its number
+pub link_found : (hook : List ℕ) (k : ℕ) → k < most_links → bytes_eq (link_hook k) hook ≡ true → k ≡ link_number hook
+link_found hook k below is = sym (ap (λ o. unwrap_or o most_links) (number_found (codes "link") most_links k hook below is))

@@ -175,17 +175,33 @@ fn guess_number(bytes: &[u8]) -> u8 {
     }
 }
 
+/// Whether a hook is the bridge's of this number.
+fn is_link(hook: &Name, number: u8) -> bool
+    requires { number ≤ 32 }
+    ensures { result ≡ bytes_eq (link_hook number) hook.now }
+{
+    let mut text = *b"link00";
+    if number < 10 {
+        text[4] = b'0' + number;
+        &text[..5] == hook.bytes()
+    } else {
+        text[4] = b'0' + number / 10;
+        text[5] = b'0' + number % 10;
+        &text[..] == hook.bytes()
+    }
+}
+
 /// The number of a bridge's hook, below 32, or 32 where it is none.
 pub fn link_number(hook: &Name) -> u8
     ensures number { result ≡ link_number hook.now }
     ensures bound { result ≤ 32 }
 {
     let guess = guess_number(hook.bytes());
-    if guess < 32 && link_hook(guess) == *hook {
+    if guess < 32 && is_link(hook, guess) {
         return guess;
     }
     for number in 0..32 {
-        if link_hook(number) == *hook {
+        if is_link(hook, number) {
             return number;
         }
     }
