@@ -45,22 +45,23 @@ fn push_byte(line: &mut Vec<u8>, byte: u8) -> Result<(), AllocError>
     line.extend_from_slice(&[b' ', high, low])
 }
 
-fn dump_row(alloc: Global, at: usize, bytes: &[u8]) -> Result<Vec<u8>, AllocError>
+// Writes a row over a line that was there, in its memory.
+fn write_row(line: &mut Vec<u8>, at: usize, bytes: &[u8]) -> Result<(), AllocError>
     requires { at < 2 ^ 20 }
-    ensures { IfOk result (λ line. line.items ≡ dump_row at bytes.now) }
+    ensures { OnOk result (line.new.items ≡ dump_row at bytes.now) }
 {
-    let mut line = Vec::with_capacity(alloc, LINE)?;
+    line.clear();
     line.extend_from_slice(&offset_digits(at))?;
     line.push(b':')?;
     for byte in bytes {
-        push_byte(&mut line, *byte)?;
+        push_byte(line, *byte)?;
     }
     line.push(b'\n')?;
-    Ok(line)
+    Ok(())
 }
 
 fn print_row<O: Sink>(
-    alloc: Global,
+    line: &mut Vec<u8>,
     packet: &[u8],
     row: usize,
     out: &mut O,
@@ -71,11 +72,11 @@ fn print_row<O: Sink>(
 {
     let at = ROW * row;
     let end = packet.len().min(at + ROW);
-    let line = dump_row(alloc, at, &packet[at..end])?;
+    write_row(line, at, &packet[at..end])?;
     put_line(out, line.as_slice())
 }
 
-/// Puts the dump of a packet's bytes, of which there are at most 262,144: a line for each sixteen.
+/// Puts the dump of a packet's bytes, of which there are at most 262,144: a line for each sixteen, all written in one memory.
 ///
 /// # Errors
 /// `Fault` where the sink failed, `NoMemory` for want of memory.
@@ -87,8 +88,9 @@ pub(crate) fn print_dump<O: Sink>(
     requires { Fits packet.now }
     ensures { Prints (O.contents out.old) (O.contents out.new) (O.faults out.old) (O.faults out.new) result (dump packet.now) }
 {
+    let mut line = Vec::with_capacity(alloc, LINE)?;
     for row in 0..packet.len().div_ceil(ROW) {
-        print_row(alloc, packet, row, out)?;
+        print_row(&mut line, packet, row, out)?;
     }
     Ok(())
 }
