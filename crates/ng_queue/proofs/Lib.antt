@@ -1,7 +1,7 @@
 pub mod ScanLemmas
 pub mod OrderLemmas
 pub mod TakeableLemmas
-pub mod HeapLemmas
+pub mod TurnLemmas
 pub mod QueuesLemmas
 pub mod BlankLemmas
 pub mod Sendable

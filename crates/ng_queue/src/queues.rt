@@ -13,8 +13,8 @@ use std::alloc::Global;
 use std::collections::VecDeque;
 use std::marker::Model;
 
-/// A queue for each node, by number, all made at once, and the least of the heads that can be taken. Finding that
-/// head, and each change of a queue, takes a number of steps that grows with the logarithm of the number of queues.
+/// A queue for each node, by number, all made at once, and the heads that can be taken, the least first. Finding that head
+/// takes one step. A change of a queue looks at the heads in front of its own, or at those accepted later than its new one.
 ///
 /// A contract sees the entries of each queue, and how many more items each has room for.
 #[derive(Drop)]
