@@ -72,7 +72,9 @@ fn print_row<O: Sink>(
 {
     let at = ROW * row;
     let end = packet.len().min(at + ROW);
-    write_row(line, at, &packet[at..end])?;
+    let Ok(()) = write_row(line, at, &packet[at..end]) else {
+        return Err(PrintStop::NoMemory);
+    };
     put_line(out, line.as_slice())
 }
 

@@ -27,7 +27,7 @@ pub returns-in_err-print_row : goal.returns-in_err-print_row
 returns-in_err-print_row g c =
     let below : c.loop-row.row < div_ceil (length c.args.packet.now) 16 = omega arith in
     let inside : c.loop-row.row < length (rows_of c.args.packet.now) = omega (arith, length-range_with_len 0 (div_ceil (length c.args.packet.now) 16)) in
-    let p = err_from_is_err_and c.from_residual.result c.from_residual.ensures.1 in
+    let p = err_from_is_err_and c.from_residual-in_err-print_row.result c.from_residual-in_err-print_row.ensures.1 in
     handed_on _ _ _ _ _ _ _ _ p.1 p.2
     (item_stopped (row_text c.args.packet.now) (rows_of c.args.packet.now) c.loop-row.row 0 _ _ _ _ _ _ c.in_err-print_row.field-0.0 inside c.loop-row.invariant
     (rw (node_at (div_ceil (length c.args.packet.now) 16) c.loop-row.row below) c.in_err-print_row.ensures))
