@@ -1,5 +1,5 @@
 // Bytes as scripts and captures.
-ghost use Rattle.std.specs.Prelude.{◌≡◌, ◌<◌, ◌≤◌, ◌⊎◌, None, Ok, true, length, map, IfOk, IfErr, IfSome};
+ghost use Rattle.std.specs.Prelude.{◌≡◌, ◌<◌, ◌≤◌, ◌⊎◌, ℕ, None, Ok, true, length, map, slice_index, IfOk, IfErr, IfSome};
 ghost use Rattle.ng_machine.specs.Words.{Every};
 ghost use Rattle.ng_pcap.specs.Reading.{capture_of};
 ghost use Rattle.ng_pcap.specs.Writing.{IsWritable};
@@ -77,7 +77,7 @@ pub(crate) fn parse_script(alloc: Global, bytes: &[u8]) -> Result<ReadScript, Sc
 /// The first fault of the bytes, or `NoMemory` where memory ran out.
 pub(crate) fn parse_capture(alloc: Global, bytes: Vec<u8>) -> Result<Capture, CaptureFault>
     ensures read { IfOk result (λ capture. capture_of bytes.items ≡ Ok capture) }
-    ensures writable { IfOk result (λ capture. Every IsWritable capture.kept) }
+    ensures bytes { (at : ℕ) → slice_index bytes.items at < 256 }
     ensures fault { IfErr result (λ why. (why ≡ capture_faults.NoMemory) ⊎ (fault_in (capture_of bytes.items) ≡ Some why)) }
 {
     read_capture(alloc, bytes)
