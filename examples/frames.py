@@ -3,6 +3,7 @@
 A capture is a file of pcap 2.4 in nanoseconds, as tcpdump reads it: write_capture("in0.pcap", [(seconds, frame), ..]).
 """
 import struct
+import sys
 
 EVERYBODY = "ff:ff:ff:ff:ff:ff"
 
@@ -69,3 +70,28 @@ def write_capture(name, packets):
             nanoseconds = round(seconds * 1_000_000_000)
             file.write(struct.pack("<IIII", *divmod(nanoseconds, 1_000_000_000), len(data), len(data)))
             file.write(data)
+
+
+def words(data):
+    """A line that tells of a frame: where it goes, where it comes from, its tags, its type and its length."""
+    kind, at, tags = int.from_bytes(data[12:14], "big"), 14, ""
+    while kind in (0x8100, 0x88A8):
+        tags += f", vlan {int.from_bytes(data[at:at + 2], 'big') & 0xFFF}"
+        kind, at = int.from_bytes(data[at + 2:at + 4], "big"), at + 4
+    return f"{data[6:12].hex(':')} > {data[:6].hex(':')}{tags}, ethertype 0x{kind:04x}, length {len(data)}"
+
+
+def show_capture(name):
+    """Prints a line for each frame of a capture that ngrun wrote."""
+    with open(name, "rb") as file:
+        data = file.read()
+    at = 24
+    while at < len(data):
+        length = int.from_bytes(data[at + 8:at + 12], "little")
+        print(words(data[at + 16:at + 16 + length]))
+        at += 16 + length
+
+
+if __name__ == "__main__":
+    for argument in sys.argv[1:]:
+        show_capture(argument)
