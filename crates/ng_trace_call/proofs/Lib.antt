@@ -1,0 +1,4 @@
+mod Said
+mod Behaves
+mod Tracing
+mod Taken

@@ -1,0 +1,5 @@
+pub mod Words
+pub mod Call
+pub mod Ends
+pub mod Behaves
+pub mod Line
