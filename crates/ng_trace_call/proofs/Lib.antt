@@ -1,4 +1,6 @@
 mod Said
 mod Behaves
 mod Tracing
+mod PlainTracing
+mod Traced
 mod Taken

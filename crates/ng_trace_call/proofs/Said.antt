@@ -1,5 +1,6 @@
 -- What is known of words that are in form: those of the run that they are of are.
-use Rattle.std.proofs.Common.{◌≡◌, ℕ, List, Option, Some, None, refl, subst}
+use Rattle.std.proofs.Common.{◌≡◌, ℕ, ◌==◌, Bool, true, false, if◌then◌else◌, List, [], Option, Some, None, refl, subst}
+use Rattle.std.proofs.lemmas.Bool.{eqb-true}
 use Rattle.ng_args.specs.Run.{words_of}
 use Rattle.ng_args.specs.declared.words.ReplayWords.{ReplayWords}
 use Rattle.ng_args.specs.declared.words.Source.{Source}
@@ -7,34 +8,35 @@ use Rattle.ng_args.specs.declared.words.Source.TheVariants.{FromFiles, Made}
 use Rattle.ng_args.specs.declared.words.Words.{Words}
 use Rattle.ng_call.specs.Said as run
 use Rattle.ng_call.proofs.Said as run_said
-use Rattle.ng_replay.specs.Call.{run_of}
-use Rattle.ng_replay.specs.Said.{InForm}
-use Rattle.ng_trace_call.specs.Words.{as_run, followed, if_followed, trace_words_of}
+use Rattle.ng_trace_call.specs.Traced.{SaidInForm}
+use Rattle.ng_trace_call.specs.Words.{as_run, bare_of, if_said, replay_of, said_by, trace_words_of}
+use Rattle.ng_trace_call.specs.declared.words.TraceWords.{TraceWords}
+use Rattle.ng_trace_call.specs.declared.words.TraceWords.TheVariants.{Follow, Plain}
 
 -- the words with another journal and other files
 abbrev with_files : Words → Option (List ℕ) → Source → Words
 with_files words journal source = record words { journal = journal; source = source }
 
-run_is : (words : Words) (journal : Option (List ℕ)) (source : Source) (w : ReplayWords) → followed words journal source ≡ Some w
-    → with_files words journal source ≡ run_of w
-run_is words None source w e = absurd (cc e)
-run_is words (Some journal) (Made packets) w e = absurd (cc e)
-run_is words (Some journal) (FromFiles script ports) w e =
-    let same : record {
-      budget = words.budget;
-      workers = words.workers;
-      own_name = words.own_name;
-      journal = journal;
-      script = script;
-      ports = ports;
-    } ≡ w = cc e in
-    subst (λ (v : ReplayWords). with_files words (Some journal) (FromFiles script ports) ≡ run_of v) same refl
+plain_form : (test : Bool) (words : ReplayWords) (w : TraceWords) → (words.workers == 0) ≡ test → run.InForm (bare_of words)
+    → (if test then Some (Plain words) else None) ≡ Some w → SaidInForm w
+plain_form true words w none known e =
+    let same : Plain words ≡ w = cc e in
+    subst SaidInForm same (record { of_run = known; none = eqb-true words.workers 0 none })
+plain_form false words w none known e = absurd (cc e)
 
-form : (said : Option Words) (w : ReplayWords) → ((words : Words) → said ≡ Some words → run.InForm words) → if_followed said ≡ Some w → InForm w
+said_form : (words : Words) (journal : Option (List ℕ)) (source : Source) (w : TraceWords) → run.InForm (with_files words journal source)
+    → said_by words journal source ≡ Some w → SaidInForm w
+said_form words (Some journal) (FromFiles script ports) w known e =
+    let same : Follow (replay_of words journal script ports) ≡ w = cc e in
+    subst SaidInForm same (record { of_run = known; workers = known.workers })
+said_form words (Some journal) (Made packets) w known e = absurd (cc e)
+said_form words None (FromFiles script ports) w known e =
+    plain_form (words.workers == 0) (replay_of words [] script ports) w refl known e
+said_form words None (Made packets) w known e = absurd (cc e)
+
+form : (said : Option Words) (w : TraceWords) → ((words : Words) → said ≡ Some words → run.InForm words) → if_said said ≡ Some w → SaidInForm w
 form None w known e = absurd (cc e)
-form (Some words) w known e =
-    let there : run.InForm (run_of w) = subst run.InForm (run_is words words.journal words.source w e) (known words refl) in
-    record { of_run = there; workers = there.workers }
+form (Some words) w known e = said_form words words.journal words.source w (known words refl) e
 
-pub in_form : (words : List (List ℕ)) (w : ReplayWords) → trace_words_of words ≡ Some w → InForm w
+pub in_form : (words : List (List ℕ)) (w : TraceWords) → trace_words_of words ≡ Some w → SaidInForm w
 in_form words w e = form (words_of (as_run words)) w (run_said.in_form (as_run words)) e

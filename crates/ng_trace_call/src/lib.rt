@@ -10,4 +10,4 @@ mod words;
 
 pub use line::trace_fault_line;
 pub use top::ngtrace;
-pub use words::read_trace_words;
+pub use words::{TraceWords, read_trace_words};

@@ -3,10 +3,10 @@ ghost use Rattle.std.specs.Prelude.{◌≡◌, ◌++◌, map, string_bytes, IfOk
 ghost use Rattle.ng_replay.specs.Line.{said_as, which_of};
 ghost use Rattle.ng_trace_call.specs.Line.{own_words, trace_line, words_by};
 ghost use Rattle.ng_replay.specs.Call.{run_of};
-ghost use Rattle.ng_trace_call.specs.Words.{trace_words_of};
+ghost use Rattle.ng_trace_call.specs.Words.{bare_of, run_words, trace_words_of};
 ghost use Rattle.std.specs.Option.{option_map};
 
-use crate::read_trace_words;
+use crate::{TraceWords, read_trace_words};
 use ng_args::{ReplayWords, Source, Words};
 use ng_base::NoMemory;
 use ng_call::{Fault, Which, fault_words};
@@ -14,9 +14,9 @@ use ng_replay::{Given, ReplayFault};
 use std::alloc::{AllocError, Global};
 
 const USAGE: &str =
-    "usage: ngtrace [-b BUDGET] [-n NAME] -j JOURNAL [-w WORKERS] SCRIPT [PORT=IN ..]";
+    "usage: ngtrace [-b BUDGET] [-n NAME] [-j JOURNAL [-w WORKERS]] SCRIPT [PORT=IN ..]";
 
-// The words of the run that a trace is of, moved.
+// The words of a run that wrote this journal.
 fn run_of(words: ReplayWords) -> Words
     ensures { result ≡ run_of words }
 {
@@ -34,6 +34,37 @@ fn run_of(words: ReplayWords) -> Words
         own_name,
         journal: Some(journal),
         source: Source::FromFiles { script, ports },
+    }
+}
+
+// Those of a run that wrote none.
+fn bare_of(words: ReplayWords) -> Words
+    ensures { result ≡ bare_of words }
+{
+    let ReplayWords {
+        budget,
+        workers,
+        own_name,
+        journal: _,
+        script,
+        ports,
+    } = words;
+    Words {
+        workers,
+        budget,
+        own_name,
+        journal: None,
+        source: Source::FromFiles { script, ports },
+    }
+}
+
+// The words of the run that a trace is of, moved.
+fn run_words(words: TraceWords) -> Words
+    ensures { result ≡ run_words words }
+{
+    match words {
+        TraceWords::Follow(words) => run_of(words),
+        TraceWords::Plain(words) => bare_of(words),
     }
 }
 
@@ -93,10 +124,10 @@ fn trace_words(
 
 // The words of the run, where those of the trace are in form.
 fn read_run_of(alloc: Global, words: &[String]) -> Result<Option<Words>, NoMemory>
-    ensures { IfOk result (λ said. said ≡ option_map run_of (trace_words_of (map (λ word. string_bytes word) words.now))) }
+    ensures { IfOk result (λ said. said ≡ option_map run_words (trace_words_of (map (λ word. string_bytes word) words.now))) }
 {
     match read_trace_words(alloc, words)? {
-        Some(said) => Ok(Some(run_of(said))),
+        Some(said) => Ok(Some(run_words(said))),
         None => Ok(None),
     }
 }

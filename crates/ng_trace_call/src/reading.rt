@@ -3,7 +3,9 @@ ghost use Rattle.std.specs.Prelude.{◌≡◌, ◌≤◌, ℕ, List, None, Ok, l
 ghost use Rattle.ng_call.specs.ending.Steps.{first_fault};
 ghost use Rattle.ng_journal.specs.Reading.{journal_of};
 ghost use Rattle.ng_call.specs.Found.{IsRead};
-ghost use Rattle.ng_call.specs.Parts.{of_files};
+ghost use Rattle.ng_args.specs.declared.words.Source.TheVariants.{FromFiles as from_files};
+ghost use Rattle.ng_call.specs.Parts.{AllPass, of_files};
+ghost use Rattle.ng_trace_call.specs.PlainCall.{PlainStops};
 ghost use Rattle.ng_replay.specs.Call.{journal_steps};
 ghost use Rattle.ng_replay.specs.Parts.{AllRead, AllStop, Stops};
 
@@ -74,5 +76,28 @@ pub(crate) fn read_all<F: Files>(
     match read_journal_file(alloc, words.journal.as_str(), files) {
         Ok(journal) => Ok(ReadAll { given, journal }),
         Err(fault) => Err(fault),
+    }
+}
+
+/// The script and the captures that files hold.
+///
+/// # Errors
+/// The first fault of them, or that of a read before it, or `NoMemory` where memory ran out.
+pub(crate) fn read_in<F: Files>(
+    alloc: Global,
+    words: &ReplayWords,
+    files: &mut F,
+) -> Result<ReadIn, ReplayFault>
+    requires few { length words.now.ports ≤ 64 }
+    ensures ok { IfOk result (λ read. AllPass (F.contents files.old) (from_files words.now.script words.now.ports)
+        read.script.script read.script.commands.items read.captures.items) }
+    ensures err { IfErr result (λ fault. PlainStops
+        (of_files (F.contents files.old) (F.contents files.new) (F.faults files.old) (F.faults files.new)) words.now fault) }
+    ensures same { F.contents files.new ≡ F.contents files.old }
+    ensures counts { (other : List ℕ) → F.faults files.old other ≤ F.faults files.new other }
+{
+    match read_files(alloc, &words.script, words.ports.as_slice(), files) {
+        Ok(read) => Ok(read),
+        Err(fault) => Err(replay_fault(fault)),
     }
 }

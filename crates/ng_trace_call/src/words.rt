@@ -2,11 +2,20 @@
 ghost use Rattle.std.specs.Prelude.{◌≡◌, ◌++◌, ◌∷◌, [], Some, map, string_bytes, IfOk, OnOk};
 ghost use Rattle.ng_args.specs.Names.{is_dashed};
 ghost use Rattle.ng_call.specs.Called.{texts};
-ghost use Rattle.ng_trace_call.specs.Words.{as_run, if_followed, trace_words_of, with_comma};
+ghost use Rattle.ng_trace_call.specs.Words.{as_run, if_said, trace_words_of, with_comma};
 
-use ng_args::{ReplayWords, Source, Words, read_words};
+use ng_args::{FileName, ReplayWords, Source, Words, read_words};
 use ng_base::NoMemory;
 use std::alloc::Global;
+
+/// The words of a trace.
+#[derive(Drop)]
+pub enum TraceWords {
+    /// The journal of the run is followed.
+    Follow(ReplayWords),
+    /// The run of no workers is made. The name of the journal has no bytes.
+    Plain(ReplayWords),
+}
 
 fn begins_with_dash(word: &str) -> bool
     ensures { result ≡ is_dashed word.now }
@@ -65,9 +74,9 @@ fn as_run(alloc: Global, words: &[String]) -> Result<Vec<String>, NoMemory>
     Ok(made)
 }
 
-// The words of the replay of such a run, where it has a journal.
-fn followed(words: Words) -> Option<ReplayWords>
-    ensures { result ≡ if_followed (Some words) }
+// What the words of a run say to a trace.
+fn said_of(alloc: Global, words: Words) -> Option<TraceWords>
+    ensures { result ≡ if_said (Some words) }
 {
     let Words {
         workers,
@@ -76,36 +85,51 @@ fn followed(words: Words) -> Option<ReplayWords>
         journal,
         source,
     } = words;
-    let Some(journal) = journal else {
-        return None;
-    };
-    let Source::FromFiles { script, ports } = source else {
-        return None;
-    };
-    Some(ReplayWords {
-        budget,
-        workers,
-        own_name,
-        journal,
-        script,
-        ports,
-    })
+    match journal {
+        Some(journal) => match source {
+            Source::FromFiles { script, ports } => Some(TraceWords::Follow(ReplayWords {
+                budget,
+                workers,
+                own_name,
+                journal,
+                script,
+                ports,
+            })),
+            Source::Made(_) => None,
+        },
+        None => match source {
+            Source::FromFiles { script, ports } => {
+                if workers != 0 {
+                    return None;
+                }
+                Some(TraceWords::Plain(ReplayWords {
+                    budget,
+                    workers,
+                    own_name,
+                    journal: FileName(String::new(alloc)),
+                    script,
+                    ports,
+                }))
+            }
+            Source::Made(_) => None,
+        },
+    }
 }
 
-/// What the words of a trace say: `[-b BUDGET] [-n NAME] -j JOURNAL [-w WORKERS] SCRIPT [PORT=IN ..]`. `None` where they say
+/// What the words of a trace say: `[-b BUDGET] [-n NAME] [-j JOURNAL [-w WORKERS]] SCRIPT [PORT=IN ..]`. `None` where they say
 /// nothing of this form.
 ///
 /// They are read as those of a run (ng_args), with a comma behind each port. So options stand in front, each at most once, and
-/// without `-w` the run had no workers; IN has no comma, and the JOURNAL equals no other file name.
+/// without `-w` the run had no workers, and without `-j` it may have none; IN has no comma, and the JOURNAL equals no other file name.
 ///
 /// # Errors
 /// `NoMemory` where memory ran out, and for nothing else.
-pub fn read_trace_words(alloc: Global, words: &[String]) -> Result<Option<ReplayWords>, NoMemory>
+pub fn read_trace_words(alloc: Global, words: &[String]) -> Result<Option<TraceWords>, NoMemory>
     ensures { IfOk result (λ said. said ≡ trace_words_of (texts words.now)) }
 {
     let words = as_run(alloc, words)?;
     match read_words(alloc, &words)? {
-        Some(said) => Ok(followed(said)),
+        Some(said) => Ok(said_of(alloc, said)),
         None => Ok(None),
     }
 }

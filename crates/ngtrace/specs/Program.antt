@@ -9,7 +9,7 @@ use Rattle.ng_replay.specs.declared.ended.Replayed.{Replayed}
 use Rattle.ng_replay.specs.declared.ended.ReplayFault.{ReplayFault}
 use Rattle.ng_replay.specs.declared.ended.ReplayFault.TheVariants.{NoMemory}
 use Rattle.ng_stock.specs.Stocked.{stocked}
-use Rattle.ng_trace_call.specs.Behaves.{IsTraceCall}
+use Rattle.ng_trace_call.specs.Traced.{IsTraced}
 use Rattle.ng_trace_call.specs.Line.{trace_line}
 use Rattle.ng_trace_call.specs.Words.{trace_words_of}
 
@@ -50,9 +50,9 @@ abbrev pub line_of : List (List ℕ) → Replayed → Option (List ℕ)
 line_of words traced = option_map (λ fault. trace_line fault (trace_words_of words)) traced.fault
 
 -- the call ended with this status, and its fault was told
-pub record IsTraced (words : List (List ℕ)) (o : Outside) (errors : SinkChange) (status : ℕ) : Type 0 where
+pub record HasTraced (words : List (List ℕ)) (o : Outside) (errors : SinkChange) (status : ℕ) : Type 0 where
   pub traced : Replayed
-  pub is_call : IsTraceCall stocked (trace_words_of words) o traced
+  pub is_call : IsTraced stocked (trace_words_of words) o traced
   pub status_is : status ≡ traced.status
   pub told : TellsIf (line_of words traced) errors
 
@@ -64,7 +64,7 @@ pub record IsUnstocked (o : Outside) (errors : SinkChange) (status : ℕ) : Type
 
 -- the two ways in which the program ends
 abbrev pub IsProgram : List (List ℕ) → Outside → SinkChange → ℕ → Type 0
-IsProgram words o errors status = IsTraced words o errors status ⊎ IsUnstocked o errors status
+IsProgram words o errors status = HasTraced words o errors status ⊎ IsUnstocked o errors status
 
 -- where the words can't be taken
 pub record IsWordless (fault : ReplayFault) (errors : SinkChange) (status : ℕ) : Type 0 where

@@ -1,6 +1,6 @@
-//! `ngtrace [-b BUDGET] [-n NAME] -j JOURNAL [-w WORKERS] SCRIPT [PORT=IN ..]`: tells why packets were lost in the run of a
-//! script of ngctl(8) commands and captures that wrote this journal: each packet that came in and reached nothing, and where
-//! its copies ended; and then how often what ended at each node.
+//! `ngtrace [-b BUDGET] [-n NAME] [-j JOURNAL [-w WORKERS]] SCRIPT [PORT=IN ..]`: tells why packets were lost in the run of a
+//! script of ngctl(8) commands and captures that wrote this journal, or without one in the run of no workers: each packet that
+//! came in and reached nothing, and where its copies ended; and then how often what ended at each node.
 //!
 //! The options are those that the run had. The status is 0 where all went well, 3 where the journal is none of the run, 64
 //! where the words are wrong, 65 where a file is not in form or too big, 66 where one can't be read, 74 where the output can't

@@ -1,12 +1,12 @@
 use Rattle.std.proofs.Common.{◌∙◌, Some, refl, sym}
 use Rattle.ng_trace_call.specs.Words.{trace_words_of}
 use Rattle.ng_call.specs.Called.{happened, kinds_of, texts}
-use Rattle.ng_trace_call.proofs.Tracing.{memory_ends, usage_ends}
+use Rattle.ng_trace_call.proofs.Traced.{memory_ends, usage_ends}
 use Rattle.ng_trace_call.proofs.Said.{in_form}
 use Rattle.ng_trace_call.proofs.top.trace_call.Goals as goal
 
-pub trace_words-requires-clause-form : goal.trace_words-requires-clause-form
-trace_words-requires-clause-form g c κs within = in_form (texts c.args.words.now) _ (sym c.in-Ok-Some.ensures ∙ c.in-Ok-Some.field-0-is)
+pub trace_said-requires-clause-form : goal.trace_said-requires-clause-form
+trace_said-requires-clause-form g c κs within = in_form (texts c.args.words.now) _ (sym c.in-Ok-Some.ensures ∙ c.in-Ok-Some.field-0-is)
 
 pub returns-in-Ok-None : goal.returns-in-Ok-None
 returns-in-Ok-None g c =
